@@ -1,0 +1,3 @@
+-- Lists and loops: the few notions that the definitions of every other crate are written in.
+pub mod Loops
+pub mod Parts
