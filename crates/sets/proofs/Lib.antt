@@ -1,0 +1,2 @@
+-- The laws of sets.
+pub mod Valid

@@ -1,0 +1,3 @@
+-- The sets and their numbers.
+pub mod Table
+pub mod Valid
