@@ -1,0 +1,2 @@
+-- What `sizes` answers to a line.
+pub mod Line
