@@ -3,3 +3,4 @@ pub mod Loops
 pub mod Tables
 pub mod Parts
 pub mod Wiping
+pub mod Writing
