@@ -3,7 +3,7 @@ use crate::hasher::Hasher;
 use lists::wipe_bytes;
 ghost use mathlib.Core.Path.{_≡_};
 ghost use mathlib.Core.List.{List, _++_};
-ghost use Prim.Native.Nat.{ℕ, _-_, _^_, _<_, _≤_};
+ghost use Prim.Native.Nat.{ℕ, _+_, _-_, _^_, _<_, _≤_};
 ghost use lib.ListN.{length};
 ghost use Rattle.hash.specs.Sha.{sha512};
 ghost use Rattle.hash.specs.Mask.{bytes4, mgf, xored};
@@ -70,4 +70,27 @@ pub fn fill_mask(h: Hasher, s: &mut [u8])
 {
     wipe_bytes(s);
     xor_mask(h, s);
+}
+
+// Lays the mask of `seed` over s.
+pub fn xor_mask_of(seed: &[u8], s: &mut [u8])
+    ensures { λ _. ⌜ now (s .exit) ≡ xored (now (s .entry)) (mgf (now (seed .entry)) (length (now (s .entry)))) ⌝ }
+{
+    xor_mask(Hasher::new().update(seed), s);
+}
+
+// Lays the mask of the seed a ∥ b over s.
+pub fn xor_mask_of_two(a: &[u8], b: &[u8], s: &mut [u8])
+    requires { ⌜ length (now a) + length (now b) < 2 ^ 63 ⌝ }
+    ensures { λ _. ⌜ now (s .exit) ≡ xored (now (s .entry)) (mgf (now (a .entry) ++ now (b .entry)) (length (now (s .entry)))) ⌝ }
+{
+    xor_mask(Hasher::new().update(a).update(b), s);
+}
+
+// The mask of the seed a ∥ b ∥ c, into s.
+pub fn fill_mask_of_three(a: &[u8], b: &[u8], c: &[u8], s: &mut [u8])
+    requires { ⌜ length (now a) + length (now b) + length (now c) < 2 ^ 63 ⌝ }
+    ensures { λ _. ⌜ now (s .exit) ≡ mgf ((now (a .entry) ++ now (b .entry)) ++ now (c .entry)) (length (now (s .entry))) ⌝ }
+{
+    fill_mask(Hasher::new().update(a).update(b).update(c), s);
 }

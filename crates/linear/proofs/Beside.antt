@@ -1,23 +1,22 @@
 -- The identity matrix beside a square matrix: the left half is as it was, the right half is the identity.
-use mathlib.Core.Path.{_≡_, refl, sym, ap, _∙_}
-use mathlib.Core.Logic.{_≢_}
+use mathlib.Core.Path.{_≡_, refl, sym, _∙_}
+use mathlib.Core.Logic.{⊎-elim, inl, inr, _≢_}
 use mathlib.Core.List.{List}
 use Prim.Native.Nat.{ℕ, zero, suc, _+_, _*_, _-_, _≤_, _<_}
-use native.Mathlib.Numerals.{add-one}
 use native.Mathlib.Omega.{arith}
-use lib.Dec.{eqb, ltb}
 use native.Mathlib.Nat.{add-assoc}
 use lib.ListN.{length, getD, set}
-use borrow.Author.Tests.{eq-eqb, ne-eqb, lt-ltb, le-ltb}
-use Rattle.lists.specs.Loops.{pick, turns}
+use borrow.Author.Tests.{eq-eqb, ne-eqb}
+use Rattle.lists.specs.Loops.{turns}
 use Rattle.lists.proofs.Loops.{turns-more}
 use Rattle.theory.proofs.Place.{at-or, below-or}
 use Rattle.gf.specs.Field.{Modulus, size}
 use Rattle.gf.proofs.Ring.{one-lt}
+use Rattle.gf.proofs.Stores.{Off, stores-length, stores-off, stores-at}
 use Rattle.linear.specs.Matrix.{Matrix, entry}
 use Rattle.linear.specs.Inverse.{LeftHalf, identity, identityAt, identityRun, besideRow, beside}
 use Rattle.linear.proofs.Steps.{row-within}
-use Rattle.linear.proofs.Entries.{store-length, store-outside, store-inside, rows-apart}
+use Rattle.linear.proofs.Entries.{rows-off}
 
 -- ---- what the code's loops store
 pub identity-same : (i j : ℕ) → i ≡ j → 1 ≡ identity i j
@@ -36,15 +35,15 @@ beside-more n i l₀ l l′ e q = q ∙ turns-more _ i l₀ l e
 module _ (at i n : ℕ) (l : List ℕ) where
   run-length : length (identityRun at i n l) ≡ length l
   unfolding identityRun
-  run-length = store-length at (λ j x. identity i j) n l
+  run-length = stores-length at (λ j x. identity i j) n l
 
-  run-outside : (p : ℕ) → (at ≤ p → p < at + n → ⊥) → getD (identityRun at i n l) p 0 ≡ getD l p 0
+  run-off : (p : ℕ) → Off at n p → getD (identityRun at i n l) p 0 ≡ getD l p 0
   unfolding identityRun
-  run-outside p out = store-outside at (λ j x. identity i j) n l p out
+  run-off = stores-off at (λ j x. identity i j) n l
 
-  run-inside : at + n ≤ length l → (j : ℕ) → j < n → getD (identityRun at i n l) (at + j) 0 ≡ identity i j
+  run-at : at + n ≤ length l → (j : ℕ) → j < n → getD (identityRun at i n l) (at + j) 0 ≡ identity i j
   unfolding identityRun
-  run-inside fits j h = store-inside at (λ j x. identity i j) n (λ k x y lt same. refl) n l j (omega arith) fits h
+  run-at fits j h = stores-at at (λ j x. identity i j) n l j h fits
 
 module _ (n : ℕ) (l : List ℕ) where
   abbrev upto : ℕ → List ℕ
@@ -62,15 +61,14 @@ module _ (n : ℕ) (l : List ℕ) where
   upto-length zero = rw upto-zero
   upto-length (suc k) = rw upto-suc (run-length (k * (n + n) + n) k n (upto k) ∙ upto-length k)
 
-  -- another row, or the left half
+  -- another row
   upto-kept : (k i j : ℕ) → i ≢ k → j < n + n → entry (n + n) (upto (suc k)) i j ≡ entry (n + n) (upto k) i j
-  upto-kept k i j d h =
-      rw upto-suc (run-outside (k * (n + n) + n) k n (upto k) (i * (n + n) + j) (λ a b. rows-apart (n + n) k i j (λ e. d (sym e)) h (omega arith) (omega arith)))
+  upto-kept k i j d h = rw upto-suc (run-off (k * (n + n) + n) k n (upto k) (i * (n + n) + j) (⊎-elim (λ a. inl (omega arith)) (λ b. inr (omega arith)) (rows-off (n + n) k i j (λ e. d (sym e)) h)))
 
   upto-left : (k i j : ℕ) → j < n → entry (n + n) (upto k) i j ≡ entry (n + n) l i j
   upto-left zero i j h = rw upto-zero
   upto-left (suc k) i j h =
-      at-or i k (λ e. rw (e, upto-suc k) (run-outside (k * (n + n) + n) k n (upto k) (k * (n + n) + j) (λ a b. omega arith) ∙ upto-left k k j h))
+      at-or i k (λ e. rw (e, upto-suc k) (run-off (k * (n + n) + n) k n (upto k) (k * (n + n) + j) (inl (omega arith)) ∙ upto-left k k j h))
       (λ d. upto-kept k i j d (omega arith) ∙ upto-left k i j h)
 
   upto-right : n * (n + n) ≤ length l → (k i j : ℕ) → k ≤ n → i < k → j < n → entry (n + n) (upto k) i (n + j) ≡ identity i j
@@ -78,7 +76,7 @@ module _ (n : ℕ) (l : List ℕ) where
   upto-right fits (suc k) i j le h g =
       at-or i k
       (λ e. rw (e, upto-suc k, ← (add-assoc (k * (n + n)) n j)) (
-      run-inside (k * (n + n) + n) k n (upto k) (omega (arith, row-within k n (n + n) (length l) (length (upto k)) le fits (upto-length k))) j g))
+      run-at (k * (n + n) + n) k n (upto k) (omega (arith, row-within k n (n + n) (length l) (length (upto k)) le fits (upto-length k))) j g))
       (λ d. upto-kept k i (n + j) d (omega arith) ∙ upto-right fits k i j (omega arith) (omega arith) g)
 
   pub beside-left : (i j : ℕ) → j < n → entry (n + n) (beside n l) i j ≡ entry (n + n) l i j

@@ -1,15 +1,14 @@
 -- The inverse: where it is found, the right half times the matrix is the identity, on both sides; where it is not, the matrix has a left
 -- kernel that is not zero, and so the answer tells singular from regular.
-use mathlib.Core.Path.{_≡_, refl, sym, ap, _∙_}
-use mathlib.Core.Logic.{_≢_}
+use mathlib.Core.Path.{_≡_, sym, ap, _∙_}
 use mathlib.Core.List.{List}
-use Prim.Native.Nat.{ℕ, _+_, _*_, _<_, _≤_}
+use Prim.Native.Nat.{ℕ, _+_, _<_, _≤_}
 use native.Mathlib.Omega.{arith}
 use lib.ListN.{length}
 use borrow.Author.Tests.{eq-eqb, ne-eqb}
 use Rattle.theory.specs.Field.{Field}
 use Rattle.theory.specs.Word.{IsZero, NonZero, unit, sum}
-use Rattle.theory.specs.Matrix.{Row, Mat, Agree, comb, LeftKer, Unit-below, Steps}
+use Rattle.theory.specs.Matrix.{Row, Agree, LeftKer, Unit-below, Steps}
 use Rattle.theory.proofs.Place.{at-or}
 use Rattle.theory.proofs.Sum.{unit-same, unit-other}
 use Rattle.theory.proofs.RowOps.{comb-agree}
@@ -17,8 +16,7 @@ use Rattle.theory.proofs.Reduced.{inverse-left, inverse-right}
 use Rattle.gf.specs.Field.{Modulus}
 use Rattle.gf.proofs.Cyclic.{Cyclic}
 use Rattle.gf.proofs.Elements.{El, el, fieldOf}
-use Rattle.linear.specs.Matrix.{Matrix, entry}
-use Rattle.linear.specs.Elimination.{Done}
+use Rattle.linear.specs.Matrix.{Matrix}
 use Rattle.linear.specs.Inverse.{LeftHalf, identity, beside, inverted}
 use Rattle.linear.proofs.Beside.{beside-left, beside-right, beside-matrix, beside-length}
 use Rattle.linear.proofs.View.{view}

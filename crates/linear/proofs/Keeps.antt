@@ -1,21 +1,21 @@
 -- What the code's loops keep: row c is zero before column c while column c is worked on, and the columns done are those of the identity.
-use mathlib.Core.Path.{_≡_, refl, sym, ap, _∙_}
-use mathlib.Core.Logic.{_≢_}
+use mathlib.Core.Path.{_≡_, sym, _∙_}
+use mathlib.Core.Logic.{inl}
 use mathlib.Core.List.{List}
-use Prim.Native.Nat.{ℕ, suc, _+_, _*_, _<_, _≤_}
+use Prim.Native.Nat.{ℕ, _+_, _*_, _<_, _≤_}
 use native.Mathlib.Numerals.{add-one}
 use native.Mathlib.Omega.{arith}
 use Rattle.theory.proofs.Place.{at-or}
 use Rattle.gf.specs.Field.{Modulus}
 use Rattle.gf.specs.Runs.{scaleRun}
 use Rattle.gf.specs.Ten.{ten}
-use Rattle.gf.proofs.Cyclic.{Cyclic}
+use Rattle.gf.proofs.Runs.{scale-off}
 use Rattle.gf.proofs.Ten.{ten-field}
-use Rattle.linear.specs.Matrix.{Matrix, entry}
+use Rattle.linear.specs.Matrix.{Matrix}
 use Rattle.linear.specs.Columns.{Lead, Reduced}
-use Rattle.linear.specs.Elimination.{Did, pivotRow, placePivot, scalePivot, clearRow, reduceColumn}
-use Rattle.linear.proofs.Entries.{store-outside}
-use Rattle.linear.proofs.Reduction.{own, clear-elsewhere, place-reduced, column-reduced}
+use Rattle.linear.specs.Elimination.{Did, pivotRow, placePivot, clearRow, reduceColumn}
+use Rattle.linear.proofs.Reduction.{own, clear-elsewhere, column-reduced}
+use Rattle.linear.proofs.Pivot.{place-reduced}
 use Rattle.linear.proofs.Search.{pivot-usable}
 
 -- nothing is done yet
@@ -30,9 +30,7 @@ lead-place F rows cols c p most m l k R le hp hk d j h =
     rw (d .mat) (place-reduced F rows cols c p m hc hp hk le R .zero-off c j hc h (omega arith))
 
 pub lead-scale : (F : Modulus) (cols c n f : ℕ) (m l : List ℕ) → Lead cols c m → l ≡ scaleRun F (c * cols + c) n f m → Lead cols c l
-unfolding scaleRun
-lead-scale F cols c n f m l lead e j h =
-    rw e (store-outside (c * cols + c) _ n m (c * cols + j) (λ a b. omega arith) ∙ lead j h)
+lead-scale F cols c n f m l lead e j h = rw e (scale-off F (c * cols + c) n f m (c * cols + j) (inl (omega arith)) ∙ lead j h)
 
 pub lead-clear : (F : Modulus) (cols c i most : ℕ) (m l : List ℕ) (k : ℕ) → Lead cols c m → c < cols → Did (clearRow F cols c i m) most l k → Lead cols c l
 lead-clear F cols c i most m l k lead hk d j h =

@@ -17,12 +17,22 @@ use Rattle.theory.proofs.Singular.{stopped-left}
 use Rattle.gf.specs.Field.{Modulus, size}
 use Rattle.gf.proofs.Cyclic.{Cyclic}
 use Rattle.gf.proofs.Elements.{el, fieldOf}
+use Rattle.gf.proofs.Runs.{AllElements}
 use Rattle.linear.specs.Matrix.{Matrix, entry}
+use Rattle.linear.specs.Columns.{Reduced}
+use Rattle.linear.specs.Inverse.{LeftHalf}
 use Rattle.linear.specs.Elimination.{Done, eliminated}
 use Rattle.linear.proofs.Steps.{entry-within}
 use Rattle.linear.proofs.Made.{made-matrix, made-length}
 use Rattle.linear.proofs.Ends.{Ends, ends}
 use Rattle.linear.proofs.View.{view, made-steps, reduced-unit}
+
+-- ---- where every number of the list is an element
+pub elements-matrix : (F : Modulus) (rows cols : ℕ) (l : List ℕ) → rows * cols ≤ length l → AllElements F l → Matrix F rows cols l
+elements-matrix F rows cols l fits all = record { fits = fits; small = λ i j hi hj. all (i * cols + j) }
+
+pub elements-left : (F : Modulus) (n : ℕ) (l : List ℕ) → n * (n + n) ≤ length l → AllElements F l → LeftHalf F n l
+elements-left F n l fits all = record { fits = fits; small = λ i j hi hj. all (i * (n + n) + j) }
 
 -- ---- a matrix that is filled place after place
 module _ (rows cols : ℕ) (f : ℕ → ℕ) where
@@ -56,6 +66,10 @@ module _ (F : Modulus) (field : Cyclic F) (rows cols limit : ℕ) (hr : limit �
 
   pub end-within : end .cols ≤ limit
   end-within = E .within
+
+  -- its columns done are those of the identity matrix, as numbers
+  pub end-reduced : Reduced F rows cols (end .cols) (end .mat)
+  end-reduced = E .reduced
 
   -- it comes from the matrix before by row operations
   pub end-steps : Steps K rows cols (view F cols l) (view F cols (end .mat))

@@ -1,7 +1,9 @@
+-- The laws that callers cite are behind `pub mod`; the rest serves the proofs of this crate.
 mod Runs
 mod Steps
 mod Entries
 mod Made
+mod Pivot
 mod Reduction
 mod Search
 mod Ends

@@ -1,15 +1,15 @@
 -- The row operations that elimination makes, as a chain; each keeps a matrix of elements one.
-use mathlib.Core.Path.{_≡_, refl, sym, ap, _∙_, subst}
+use mathlib.Core.Path.{_≡_, refl, _∙_}
 use mathlib.Core.Logic.{_≢_}
 use mathlib.Core.List.{List}
-use Prim.Native.Nat.{ℕ, suc, _+_, _*_, _<_, _≤_}
+use Prim.Native.Nat.{ℕ, _+_, _*_, _<_, _≤_}
 use lib.ListN.{length}
 use Rattle.theory.proofs.Place.{at-or}
-use Rattle.gf.specs.Field.{Modulus, size, width, _⊕_, mul}
+use Rattle.gf.specs.Field.{Modulus, size, width}
 use Rattle.gf.specs.Runs.{addRun, scaleRun}
 use Rattle.gf.proofs.Xor.{add-lt}
 use Rattle.gf.proofs.Ring.{mul-lt}
-use Rattle.linear.specs.Matrix.{Matrix, entry, swapRun}
+use Rattle.linear.specs.Matrix.{Matrix, swapRun}
 use Rattle.linear.proofs.Steps.{row-within}
 use Rattle.linear.proofs.Entries.{added-length, added-there, added-elsewhere, scaled-length, scaled-there, scaled-elsewhere, swapped-length, swapped-first, swapped-second, swapped-elsewhere}
 

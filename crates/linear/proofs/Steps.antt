@@ -1,13 +1,12 @@
 -- The code's steps are the definition's. Each premise is as the code's own calls, tests and invariants give it.
-use mathlib.Core.Path.{_≡_, refl, sym, ap, _∙_}
-use mathlib.Core.Bool.{Bool, true, false, not}
+use mathlib.Core.Path.{_≡_, refl, _∙_}
+use mathlib.Core.Bool.{true, false, not}
 use mathlib.Core.List.{List}
 use Prim.Native.Nat.{ℕ, suc, _+_, _*_, _-_, _<_, _≤_}
 use native.Mathlib.Nat.{mul-le-mul-right, suc-mul}
 use native.Mathlib.Numerals.{add-one}
 use native.Mathlib.Omega.{arith}
-use lib.Dec.{eqb, ltb}
-use lib.ListN.{getD, set}
+use lib.Dec.{eqb}
 use borrow.Author.Tests.{eq-eqb, ne-eqb, lt-ltb, le-ltb}
 use Rattle.lists.specs.Loops.{turns}
 use Rattle.lists.proofs.Loops.{turns-more, turns-end, left-suc}
@@ -15,7 +14,7 @@ use Rattle.gf.specs.Field.{Modulus, inverse}
 use Rattle.gf.specs.Runs.{addRun, scaleRun}
 use Rattle.linear.specs.Matrix.{entry, swapAt, swapRun}
 use Rattle.linear.specs.Columns.{Lead}
-use Rattle.linear.specs.Elimination.{Work, Did, Done, Ended, pivotRow, placePivot, scalePivot, clearRow, clearNext, clearColumn, reduceColumn, eliminateFrom, eliminated}
+use Rattle.linear.specs.Elimination.{Work, Did, Done, Ended, pivotRow, placePivot, scalePivot, clearRow, clearNext, clearColumn, reduceColumn, eliminateFrom}
 use Rattle.linear.proofs.Runs.{scale-from, add-from}
 
 -- ---- where a row and an entry lie. n is the length now, n₀ the one that a `requires` speaks of

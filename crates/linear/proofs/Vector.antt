@@ -7,7 +7,7 @@ use lib.ListN.{length, getD}
 use Rattle.lists.proofs.Tables.{length-tab, getD-tab}
 use Rattle.theory.specs.Field.{Field}
 use Rattle.theory.specs.Word.{NonZero, sum}
-use Rattle.theory.specs.Matrix.{Row, Agree, Ker, stop-vector}
+use Rattle.theory.specs.Matrix.{Ker, stop-vector}
 use Rattle.theory.proofs.Field.{mul-one, eq-of-add}
 use Rattle.theory.proofs.Place.{at-or, below-or}
 use Rattle.theory.proofs.Sum.{sum-suc}

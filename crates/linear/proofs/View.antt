@@ -1,18 +1,17 @@
 -- The list as a matrix over the field of `theory`: its row operations are that theory's, so that all it proves of them holds here.
-use mathlib.Core.Path.{_≡_, refl, sym, ap, ap₂, _∙_}
+use mathlib.Core.Path.{sym, ap, _∙_}
 use mathlib.Core.Logic.{_≢_}
 use mathlib.Core.List.{List}
-use Prim.Native.Nat.{ℕ, _+_, _*_, _<_, _≤_}
-use lib.ListN.{length, getD}
+use Prim.Native.Nat.{ℕ, _*_, _<_}
 use Rattle.theory.specs.Field.{Field}
-use Rattle.theory.specs.Matrix.{Mat, swap, Agree, Unit-below, Steps}
+use Rattle.theory.specs.Matrix.{swap, Agree, Unit-below, Steps}
 use Rattle.theory.specs.Matrix as theory
 use Rattle.theory.proofs.Place.{at-or, swap-first, swap-second, swap-other}
 use Rattle.theory.proofs.RowOps.{add-row-at, add-row-off, scale-row-at, scale-row-off}
-use Rattle.gf.specs.Field.{Modulus, size, _⊕_, mul}
+use Rattle.gf.specs.Field.{Modulus}
 use Rattle.gf.specs.Runs.{addRun, scaleRun}
 use Rattle.gf.proofs.Cyclic.{Cyclic}
-use Rattle.gf.proofs.Elements.{El, el, fieldOf, plus, times, el-xor, el-mul, el-nonzero}
+use Rattle.gf.proofs.Elements.{El, el, fieldOf, plus, el-xor, el-mul, el-nonzero}
 use Rattle.linear.specs.Matrix.{Matrix, entry, swapRun}
 use Rattle.linear.specs.Columns.{Reduced}
 use Rattle.linear.proofs.Entries.{added-there, added-elsewhere, scaled-there, scaled-elsewhere, swapped-first, swapped-second, swapped-elsewhere}

@@ -15,6 +15,7 @@ pub record Work : Type 0 where
   pub mat : List ℕ
   pub ops : ℕ
 
+-- a row is usable for column c if its entry there is not 0
 abbrev pub usable : ℕ → ℕ → List ℕ → ℕ → Bool
 usable cols c l i = not (eqb (entry cols l i c) 0)
 
@@ -41,11 +42,12 @@ clearRow F cols c i l =
     (pick (eqb (entry cols l i c) 0) (record { mat = l; ops = 0 })
     (record { mat = addRun F (i * cols) (c * cols) cols (entry cols l i c) l; ops = 1 }))
 
+-- row i cleared after the rows before it, its operation counted
 abbrev pub clearNext : Modulus → ℕ → ℕ → ℕ → Work → Work
 clearNext F cols c i w =
     record { mat = clearRow F cols c i (w .mat) .mat; ops = w .ops + clearRow F cols c i (w .mat) .ops }
 
--- row 0, then row 1, ..
+-- row 0, then row 1, .., up to the last
 unfoldable pub clearColumn : Modulus → ℕ → ℕ → ℕ → List ℕ → Work
 clearColumn F rows cols c l = turns (clearNext F cols c) rows (record { mat = l; ops = 0 })
 

@@ -21,6 +21,7 @@ pub record LeftHalf (F : Modulus) (n : ℕ) (l : List ℕ) : Type 0 where
 abbrev pub identity : ℕ → ℕ → ℕ
 identity i j = pick (eqb i j) 1 0
 
+-- its entry at (i, j), j places after `at`
 abbrev pub identityAt : ℕ → ℕ → ℕ → List ℕ → List ℕ
 identityAt at i j l = set l (at + j) (identity i j)
 
@@ -28,6 +29,7 @@ identityAt at i j l = set l (at + j) (identity i j)
 unfoldable pub identityRun : ℕ → ℕ → ℕ → List ℕ → List ℕ
 identityRun at i n l = turns (identityAt at i) n l
 
+-- the same in the right half of row i
 abbrev pub besideRow : ℕ → ℕ → List ℕ → List ℕ
 besideRow n i l = identityRun (i * (n + n) + n) i n l
 

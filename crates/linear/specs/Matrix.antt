@@ -14,6 +14,7 @@ pub record Matrix (F : Modulus) (rows cols : ℕ) (l : List ℕ) : Type 0 where
   pub fits : rows * cols ≤ length l
   pub small : (i j : ℕ) → i < rows → j < cols → entry cols l i j < size F
 
+-- the elements k places after a and after b, exchanged
 abbrev pub swapAt : ℕ → ℕ → ℕ → List ℕ → List ℕ
 swapAt a b k l = set (set l (a + k) (getD l (b + k) 0)) (b + k) (getD l (a + k) 0)
 

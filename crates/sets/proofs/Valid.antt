@@ -8,11 +8,12 @@ use lib.Dec.{T, eqb, leb, ltb, eqb→eq, leb→le, ltb→lt}
 use native.Mathlib.Omega.{arith}
 use native.Mathlib.Decide.{ℕ-discrete}
 use borrow.Author.Tests.{eq-eqb, ne-eqb}
+use Rattle.bits.specs.Bits.{bytesFor}
 use Rattle.sets.specs.declared.Set.{Set}
 use Rattle.sets.specs.declared.Named.{Named}
 use Rattle.sets.specs.declared.Named.the-variants.{Known, Unknown}
 use Rattle.sets.specs.Table.{set6, set1, setOf}
-use Rattle.sets.specs.Valid.{Valid, bytesFor, setupElements, keyElements}
+use Rattle.sets.specs.Valid.{Valid, setupElements, keyElements}
 
 -- ---- the table by cases
 module _ (byte : ℕ) where

@@ -1,11 +1,8 @@
 -- The facts of a set's numbers that proofs go by. They are shown for each set of the table by computation; no proof names a set.
 use mathlib.Core.Path.{_≡_}
-use Prim.Native.Nat.{ℕ, _+_, _-_, _*_, _/_, _^_, _≤_, _<_}
+use Prim.Native.Nat.{ℕ, _+_, _-_, _*_, _^_, _≤_, _<_}
+use Rattle.bits.specs.Bits.{bytesFor}
 use Rattle.sets.specs.declared.Set.{Set}
-
--- how many bytes f elements of m bits take
-abbrev pub bytesFor : ℕ → ℕ → ℕ
-bytesFor m f = (m * f + 7) / 8
 
 -- 01, Key setup: the elements that setup draws from its random bytes
 abbrev pub setupElements : Set → ℕ

@@ -1,7 +1,6 @@
 -- What is left to search answers what the whole does.
 use mathlib.Core.Path.{_≡_}
 use Prim.Native.Nat.{_≤_, _-_}
-use lib.ListN.{length}
 use Rattle.lists.specs.Loops.{first}
 use Rattle.lists.proofs.Loops.{first-again, first-found, first-nowhere}
 use Rattle.linear.specs.Elimination.{pivotRow, usable}

@@ -1,6 +1,5 @@
 -- The two cases of the definition.
 use Rattle.linear.proofs.Beside.{identity-same, identity-other}
-use borrow.Author.Needs.{needs}
 use Rattle.linear.proofs.inverse.identity_entry.Statement.{statement}
 use Rattle.linear.proofs.inverse.identity_entry.Tie as tie
 

@@ -1,7 +1,6 @@
 -- The three cases of the definition.
 use Rattle.linear.proofs.Steps.{entry-within}
 use Rattle.linear.proofs.Reading.{kernel-below, kernel-one, kernel-zero}
-use borrow.Author.Needs.{needs}
 use Rattle.linear.proofs.kernel.kernel_at.Statement.{statement}
 use Rattle.linear.proofs.kernel.kernel_at.Tie as tie
 
