@@ -1,0 +1,2 @@
+-- What a number that is returned to C means.
+pub mod Coded
