@@ -1,5 +1,8 @@
 # make demo: shows what there is. make test: everything that must hold; its last line is 'N passed, 0 failed'.
-.PHONY: demo test
+# make compare COUNT=..: as many cases as you like through the library and the second implementation.
+.PHONY: demo test compare
+COUNT ?= 6000
+LIBRARY = target/native/libstanquivol.a
 
 demo:
 	@echo 'Proving the crates behind sizes ..'
@@ -7,7 +10,8 @@ demo:
 	@echo 'The sets, as the program sizes prints them for the set bytes 16, 11 and 26:'
 	@printf '16\n11\n26\n' | scripts/run-program sizes
 
-# Tables and stored vectors are what the scripts make; the peer's own tests; sizes on whole inputs; then the gate itself.
+# Tables and stored vectors are what the scripts make; the peer's own tests; the library against the peer; the C interface;
+# sizes on whole inputs; then the gate itself, which starts from nothing.
 test:
 	rt fmt --check
 	scripts/field-tables --check
@@ -15,6 +19,12 @@ test:
 	scripts/bytes-vectors --check
 	scripts/hash-vectors --check
 	cargo test --quiet --release --offline --manifest-path peer/Cargo.toml
+	$(MAKE) --no-print-directory compare
+	tests/c-interface
 	rt check sizes
 	tests/sizes
 	rt ci
+
+compare:
+	scripts/native-library stanquivol $(LIBRARY)
+	STANQUIVOL_LIB=$(CURDIR)/target/native cargo run --quiet --release --offline --manifest-path compare/Cargo.toml -- $(COUNT)
