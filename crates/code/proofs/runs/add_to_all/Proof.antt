@@ -1,0 +1,71 @@
+-- The first i numbers of the run are added to, and the rest is as it was.
+use mathlib.Core.Path.{_≡_}
+use Prim.Native.Nat.{ℕ, _+_, _-_, _≤_, _<_}
+use lib.ListN.{length, getD}
+use Rattle.gf.specs.Field.{_⊕_, alpha}
+use Rattle.code.specs.Stages.{Wrote}
+use Rattle.code.proofs.Writing.{wrote-none, added-more, wrote-end}
+use borrow.Author.Needs.{needs}
+use Rattle.code.proofs.runs.add_to_all.Statement.{statement}
+use Rattle.code.proofs.runs.add_to_all.Tie as tie
+
+abbrev Inv-loop : tie.InvT-loop
+Inv-loop s₀ at n c i₀ s i = (i ≤ n) × (length s ≡ length s₀) × Wrote at i (λ j. getD s₀ (at + j) 0 ⊕ c) s₀ s
+
+abbrev μ-loop : tie.MeasureT-loop
+μ-loop s₀ at n c i₀ s i = n - i
+
+loop-holds : tie.Need-loop-holds Inv-loop μ-loop
+loop-holds c = (search needs, search needs, wrote-none _ _ _)
+
+add-s : tie.Need-add-s Inv-loop μ-loop
+add-s c = search needs
+
+mul-s : tie.Need-mul-s Inv-loop μ-loop
+mul-s c = search needs
+
+slice-read-s : tie.Need-slice-read-s Inv-loop μ-loop
+slice-read-s c = search needs
+
+add-s-2 : tie.Need-add-s-2 Inv-loop μ-loop
+add-s-2 c = search needs
+
+mul-s-2 : tie.Need-mul-s-2 Inv-loop μ-loop
+mul-s-2 c = search needs
+
+slice-write-s : tie.Need-slice-write-s Inv-loop μ-loop
+slice-write-s c = search needs
+
+add-i : tie.Need-add-i Inv-loop μ-loop
+add-i c = search needs
+
+loop-less : tie.Need-loop-less Inv-loop μ-loop
+loop-less c = search needs
+
+loop-again : tie.Need-loop-again Inv-loop μ-loop
+loop-again c = (search needs, search needs, search added-more)
+
+same-length : tie.Need-same-length Inv-loop μ-loop
+same-length c = search needs
+
+returns : tie.Need-returns Inv-loop μ-loop
+returns c = search wrote-end
+
+pub add-to-all-spec : {M : Type 1} → statement M
+add-to-all-spec =
+    tie.close
+    (tie.spec
+    Inv-loop
+    μ-loop
+    loop-holds
+    add-s
+    mul-s
+    slice-read-s
+    add-s-2
+    mul-s-2
+    slice-write-s
+    add-i
+    loop-less
+    loop-again
+    same-length
+    returns)

@@ -1,0 +1,54 @@
+-- What is stored is what the contract says.
+use mathlib.Core.Path.{_≡_}
+use borrow.Author.Needs.{needs}
+use Rattle.code.proofs.values.add_one.Statement.{statement}
+use Rattle.code.proofs.values.add_one.Tie as tie
+
+place-requires : tie.Need-place-requires
+place-requires c κs = search needs
+
+add-s : tie.Need-add-s
+add-s c = search needs
+
+mul-s : tie.Need-mul-s
+mul-s c = search needs
+
+slice-read-s : tie.Need-slice-read-s
+slice-read-s c = search needs
+
+mul-s-2 : tie.Need-mul-s-2
+mul-s-2 c = search needs
+
+slice-read-s-2 : tie.Need-slice-read-s-2
+slice-read-s-2 c = search needs
+
+add-s-2 : tie.Need-add-s-2
+add-s-2 c = search needs
+
+mul-s-3 : tie.Need-mul-s-3
+mul-s-3 c = search needs
+
+slice-write-s : tie.Need-slice-write-s
+slice-write-s c = search needs
+
+same-length : tie.Need-same-length
+same-length c = search needs
+
+returns : tie.Need-returns
+returns c = cc
+
+pub add-one-spec : {M : Type 1} → statement M
+add-one-spec =
+    tie.close
+    (tie.spec
+    place-requires
+    add-s
+    mul-s
+    slice-read-s
+    mul-s-2
+    slice-read-s-2
+    add-s-2
+    mul-s-3
+    slice-write-s
+    same-length
+    returns)
