@@ -34,14 +34,15 @@ abbrev pub afterSetup : Made → List ℕ → List ℕ → List ℕ → SetupEnd
 afterSetup (made p q count) public private work = record { answer = Done count; public = p; private = q; work = zeroed work }
 afterSetup (fails a) public private work = record { answer = a; public = zeroed public; private = zeroed private; work = zeroed work }
 
-abbrev pub setupLengths : Set → List ℕ → List ℕ → List ℕ → List ℕ → Bool
+-- the lengths of the random bytes, of both keys and of the work area
+abbrev pub setupLengths : Set → ℕ → ℕ → ℕ → ℕ → Bool
 setupLengths s random public private work =
-    eqb (length random) (s .random) && (eqb (length public) (s .public) && (eqb (length private) (s .private) && eqb (length work) (s .work)))
+    eqb random (s .random) && (eqb public (s .public) && (eqb private (s .private) && eqb work (s .work)))
 
 abbrev pub setupOf : Named → List ℕ → List ℕ → List ℕ → List ℕ → SetupEnd
 setupOf Unknown random public private work = record { answer = UnknownSet; public = public; private = private; work = work }
 setupOf (Known s) random public private work =
-    pick (setupLengths s random public private work) (afterSetup (setup s random) public private work)
+    pick (setupLengths s (length random) (length public) (length private) (length work)) (afterSetup (setup s random) public private work)
     (record { answer = WrongLength; public = public; private = private; work = work })
 
 -- the set byte, the random bytes, and the three buffers as they are lent
@@ -55,10 +56,10 @@ pub record SealEnd : Type 0 where
   pub cipher : List ℕ
   pub work : List ℕ
 
--- "B blocks of k3 + 2t bytes, B from 1 to 16"
-abbrev pub sealLengths : Set → List ℕ → List ℕ → List ℕ → List ℕ → Bool
+-- "B blocks of k3 + 2t bytes, B from 1 to 16"; the lengths of the key, the random bytes, the ciphertext and the work area
+abbrev pub sealLengths : Set → ℕ → ℕ → ℕ → ℕ → Bool
 sealLengths s key random cipher work =
-    eqb (length key) (s .public) && (eqb (length random % s .block) 0 && (leb 1 (length random / s .block) && (leb (length random / s .block) 16 && (eqb (length cipher) (s .cipher) && eqb (length work) (s .work)))))
+    eqb key (s .public) && (eqb (random % s .block) 0 && (leb 1 (random / s .block) && (leb (random / s .block) 16 && (eqb cipher (s .cipher) && eqb work (s .work)))))
 
 -- past the first checks
 unfoldable pub afterSeal : Set → List ℕ → List ℕ → List ℕ → List ℕ → List ℕ → SealEnd
@@ -71,7 +72,7 @@ afterSeal s key random msg cipher work =
 abbrev pub sealOf : Named → List ℕ → List ℕ → List ℕ → List ℕ → List ℕ → SealEnd
 sealOf Unknown key random msg cipher work = record { answer = UnknownSet; cipher = cipher; work = work }
 sealOf (Known s) key random msg cipher work =
-    pick (sealLengths s key random cipher work && eqb (length msg) (s .k1)) (afterSeal s key random msg cipher work)
+    pick (sealLengths s (length key) (length random) (length cipher) (length work) && eqb (length msg) (s .k1)) (afterSeal s key random msg cipher work)
     (record { answer = WrongLength; cipher = cipher; work = work })
 
 unfoldable pub sealEnds : List ℕ → List ℕ → List ℕ → List ℕ → List ℕ → SealEnd
@@ -82,7 +83,7 @@ sealEnds (byte ∷ key) random msg cipher work = sealOf (setOf byte) (byte ∷ k
 abbrev pub wrapOf : Named → List ℕ → List ℕ → List ℕ → List ℕ → List ℕ → SealEnd
 wrapOf Unknown key random secret cipher work = record { answer = UnknownSet; cipher = cipher; work = work }
 wrapOf (Known s) key random secret cipher work =
-    pick (sealLengths s key random cipher work)
+    pick (sealLengths s (length key) (length random) (length cipher) (length work))
     (pick (leb 1 (length secret) && leb (length secret) (s .k1)) (afterSeal s key random (secretMessage s secret) cipher work)
     (record { answer = WrongSecret; cipher = cipher; work = work }))
     (record { answer = WrongLength; cipher = cipher; work = work })
@@ -110,9 +111,9 @@ OpenCase s key cipher Gives before Dependent after = ⊥
 OpenCase s key cipher Gives before ZeroValues after = ⊥
 OpenCase s key cipher Gives before WrongSecret after = ⊥
 
-abbrev pub openLengths : Set → List ℕ → List ℕ → List ℕ → Bool
-openLengths s key cipher work =
-    eqb (length key) (s .private) && (eqb (length cipher) (s .cipher) && eqb (length work) (s .work))
+-- the lengths of the key, the ciphertext and the work area
+abbrev pub openLengths : Set → ℕ → ℕ → ℕ → Bool
+openLengths s key cipher work = eqb key (s .private) && (eqb cipher (s .cipher) && eqb work (s .work))
 
 -- nothing is written, and the answer is a
 pub record Untouched (a : Answer) (out work : List ℕ) (answer : Answer) (out′ work′ : List ℕ) : Type 0 where
@@ -133,7 +134,7 @@ OpenChecked false s key cipher out work answer out′ work′ = Untouched WrongL
 abbrev pub OpenOf : Named → List ℕ → List ℕ → List ℕ → List ℕ → Answer → List ℕ → List ℕ → Type 0
 OpenOf Unknown key cipher out work answer out′ work′ = Untouched UnknownSet out work answer out′ work′
 OpenOf (Known s) key cipher out work answer out′ work′ =
-    OpenChecked (openLengths s key cipher work && eqb (length out) (s .k1)) s key cipher out work answer out′ work′
+    OpenChecked (openLengths s (length key) (length cipher) (length work) && eqb (length out) (s .k1)) s key cipher out work answer out′ work′
 
 -- the key, the ciphertext, the message and the work area as they are lent; the answer; message and work area afterwards
 abbrev pub OpenEnds : List ℕ → List ℕ → List ℕ → List ℕ → Answer → List ℕ → List ℕ → Type 0
@@ -157,7 +158,7 @@ UnwrapChecked false s key cipher out work answer out′ work′ = Untouched Wron
 abbrev pub UnwrapOf : Named → List ℕ → List ℕ → List ℕ → List ℕ → Answer → List ℕ → List ℕ → Type 0
 UnwrapOf Unknown key cipher out work answer out′ work′ = Untouched UnknownSet out work answer out′ work′
 UnwrapOf (Known s) key cipher out work answer out′ work′ =
-    UnwrapChecked (openLengths s key cipher work) s key cipher out work answer out′ work′
+    UnwrapChecked (openLengths s (length key) (length cipher) (length work)) s key cipher out work answer out′ work′
 
 abbrev pub UnwrapEnds : List ℕ → List ℕ → List ℕ → List ℕ → Answer → List ℕ → List ℕ → Type 0
 UnwrapEnds [] cipher out work answer out′ work′ = Untouched WrongLength out work answer out′ work′
