@@ -66,8 +66,6 @@ tests s =
     eqb (s .random) (bytesFor (s .m) (setupElements s) + 2 * (s .n - 1) + 2 * (s .n + s .w - 1) + 4) ∷
     eqb (s .block) (s .k3 + 2 * s .t) ∷
     eqb (s .work) (4 * s .n * (s .n + s .w)) ∷
-    leb (s .k1 + s .k2 + s .k3) 2048 ∷
-    leb (2 * s .t) 1024 ∷
     ltb (s .work) (2 ^ 32) ∷ []
 
 passed : (s : Set) → T (all (tests s)) → Valid s
@@ -75,7 +73,7 @@ unfolding tests all Each
 passed s h = go (each (tests s) h)
   where
     go : Each (tests s) → Valid s
-    go (code, (some-k, (some-t, (some-w, (room, (narrow, (wide, (points, (places, (padded, (some-message, (some-check, (some-seed, (public-is, (private-is, (cipher-is, (random-is, (block-is, (work-is, (short-padded, (short-places, (small, end)))))))))))))))))))))) =
+    go (code, (some-k, (some-t, (some-w, (room, (narrow, (wide, (points, (places, (padded, (some-message, (some-check, (some-seed, (public-is, (private-is, (cipher-is, (random-is, (block-is, (work-is, (small, end)))))))))))))))))))) =
         record {
           code = eqb→eq _ _ code;
           some-k = ltb→lt _ _ some-k;
@@ -96,8 +94,6 @@ passed s h = go (each (tests s) h)
           random-is = eqb→eq _ _ random-is;
           block-is = eqb→eq _ _ block-is;
           work-is = eqb→eq _ _ work-is;
-          short-padded = leb→le _ _ short-padded;
-          short-places = leb→le _ _ short-places;
           small = ltb→lt _ _ small;
         }
 

@@ -39,8 +39,5 @@ pub record Valid (s : Set) : Type 0 where
   pub random-is : s .random ≡ bytesFor (s .m) (setupElements s) + 2 * (s .n - 1) + 2 * (s .n + s .w - 1) + 4
   pub block-is : s .block ≡ s .k3 + 2 * s .t
   pub work-is : s .work ≡ 4 * s .n * (s .n + s .w)
-  -- the padded string and the places string have room in the byte arrays that sealing and opening keep on the stack
-  pub short-padded : s .k1 + s .k2 + s .k3 ≤ 2048
-  pub short-places : 2 * s .t ≤ 1024
   -- no length comes near what a machine's numbers hold
   pub small : s .work < 2 ^ 32
