@@ -17,7 +17,9 @@ test:
 	scripts/field-tables --check
 	scripts/sha512-constants --check
 	scripts/bytes-vectors --check
+	scripts/reader-vectors --check
 	scripts/hash-vectors --check
+	scripts/code-vectors --check
 	cargo test --quiet --release --offline --manifest-path peer/Cargo.toml
 	$(MAKE) --no-print-directory compare
 	tests/c-interface

@@ -1,8 +1,7 @@
 -- From lists of numbers to the words of `theory`: power sums, values of polynomials, code words and distances.
-use mathlib.Core.Path.{_≡_, refl, sym, ap, ap₂, _∙_}
-use mathlib.Core.Logic.{_≢_}
+use mathlib.Core.Path.{_≡_, sym, ap, ap₂, _∙_}
 use mathlib.Core.List.{List}
-use Prim.Native.Nat.{ℕ, zero, suc, _+_, _*_, _≤_, _<_}
+use Prim.Native.Nat.{ℕ, zero, suc, _*_, _≤_, _<_}
 use native.Mathlib.Nat as N
 use native.Mathlib.Omega.{arith}
 use native.Mathlib.Decide.{ℕ-discrete}
@@ -13,15 +12,15 @@ use borrow.Author.Tests.{eq-eqb, ne-eqb}
 use Rattle.lists.specs.Loops.{pick}
 use Rattle.theory.specs.Field.{Field}
 use Rattle.theory.specs.Word.{sum, pow, nz, wt}
-use Rattle.theory.specs.Code.{Points, syn, IsCode, ev}
+use Rattle.theory.specs.Code.{syn, IsCode, ev}
 use Rattle.theory.proofs.Field.{add-self, eq-of-add}
 use Rattle.theory.proofs.Sum.{sum-ext, sum-nil, sum-suc}
 use Rattle.theory.proofs.Weight.{nz-zero, nz-one, nz-le}
-use Rattle.gf.specs.Field.{Modulus, width, size, order, _⊕_, mul, alpha}
+use Rattle.gf.specs.Field.{Modulus, width, size, alpha}
 use Rattle.gf.proofs.Xor.{add-lt}
 use Rattle.gf.proofs.Ring.{mul-lt, power-alpha}
 use Rattle.gf.proofs.Cyclic.{Cyclic}
-use Rattle.gf.proofs.Elements.{El, el, fieldOf, plus, times, el-xor, el-mul, el-power, el-injective, alpha-points}
+use Rattle.gf.proofs.Elements.{El, el, fieldOf, plus, times, el-xor, el-mul, el-power, el-injective}
 use Rattle.code.specs.Words.{sumOf, powerSum, CodeWord, apart}
 use Rattle.code.proofs.Horner as numbers
 

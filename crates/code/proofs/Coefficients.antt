@@ -1,9 +1,7 @@
 -- The generator's coefficients: each step of the recursion read at a place, and the loops that compute it.
 use mathlib.Core.Path.{_≡_, refl, sym, ap, ap₂, _∙_}
-use mathlib.Core.Logic.{_≢_}
-use mathlib.Core.List.{List, [], _∷_}
+use mathlib.Core.List.{List, _∷_}
 use Prim.Native.Nat.{ℕ, zero, suc, _+_, _-_, _≤_, _<_}
-use native.Mathlib.Numerals.{add-one}
 use native.Mathlib.Omega.{arith}
 use lib.ListN.{length, getD, set, length-set, List·getD-eq-default}
 use lib.Seq.{getD-set-same, getD-set-other, ext-getD}
@@ -11,10 +9,10 @@ use Rattle.lists.specs.Loops.{tab}
 use Rattle.lists.proofs.Tables.{length-tab, getD-tab}
 use Rattle.theory.proofs.Place.{at-or, below-or}
 use Rattle.gf.specs.Field.{Modulus, width, size, _⊕_, mul, alpha}
-use Rattle.gf.proofs.Xor.{add-lt, zero-left, zero-right}
+use Rattle.gf.proofs.Xor.{add-lt}
 use Rattle.gf.proofs.Ring.{mul-lt, mul-zero-right, one-lt}
 use Rattle.code.specs.Generator.{withRoot, generator, TimesRoot}
-use Rattle.code.specs.Stages.{Wrote}
+use Rattle.lists.specs.Parts.{Wrote}
 
 module _ (F : Modulus) (a : ℕ) (p : List ℕ) where
   root-length : length (withRoot F a p) ≡ suc (length p)

@@ -1,8 +1,7 @@
 -- The loops that set up the equations for the values and add their solution: what a turn leaves.
 use mathlib.Core.Path.{_≡_, refl, sym, ap, ap₂, _∙_}
-use mathlib.Core.Logic.{_≢_}
 use mathlib.Core.List.{List}
-use Prim.Native.Nat.{ℕ, zero, suc, _+_, _*_, _≤_, _<_}
+use Prim.Native.Nat.{ℕ, suc, _+_, _*_, _≤_, _<_}
 use native.Mathlib.Nat.{suc-mul, mul-add, mul-one}
 use native.Mathlib.Omega.{arith}
 use lib.ListN.{length, getD, set, length-set}
@@ -12,10 +11,11 @@ use Rattle.gf.specs.Field.{Modulus, _⊕_, mul, alpha}
 use Rattle.gf.specs.Runs.{mulRun}
 use Rattle.gf.proofs.Ring.{alpha-add}
 use Rattle.linear.specs.Matrix.{entry}
-use Rattle.code.specs.Stages.{Wrote, PowerRow, PowerRows, Added}
-use Rattle.code.proofs.Writing.{wrote-more}
+use Rattle.lists.specs.Parts.{Wrote}
+use Rattle.code.specs.Stages.{PowerRow, PowerRows, Added}
+use Rattle.lists.proofs.Writing.{wrote-more}
 use Rattle.code.proofs.Horner.{mul-run-wrote}
-use Rattle.code.proofs.Matrices.{row-within, entry-within, rows-up}
+use Rattle.code.proofs.Matrices.{row-within, entry-within}
 
 -- ---- the numbers at the places
 module _ (dst src n at r k : ℕ) (l₀ l : List ℕ) (w : Wrote dst k (λ j. getD l₀ (src + getD l₀ (at + j) 0) 0) l₀ l) (lt : k < r) (o₁ : dst + r ≤ src) (o₂ : src + n ≤ at) (fits : at + r ≤ length l₀) (below : (k : ℕ) → k < r → getD l₀ (at + k) 0 < n) where

@@ -4,29 +4,31 @@ use mathlib.Core.Path.{_≡_, refl, sym, ap, _∙_}
 use mathlib.Core.Logic.{_≢_}
 use mathlib.Core.Bool.{Bool, true, false}
 use mathlib.Core.List.{List}
-use Prim.Native.Nat.{ℕ, zero, suc, _+_, _*_, _≤_, _<_}
+use Prim.Native.Nat.{ℕ, zero, suc, _+_, _≤_, _<_}
 use native.Mathlib.Omega.{arith}
 use lib.ListN.{length, getD}
 use borrow.Author.Tests.{eq-eqb}
 use Rattle.lists.specs.Loops.{tab}
 use Rattle.lists.specs.Parts.{part}
+use Rattle.lists.proofs.Writing.{part-same}
 use Rattle.lists.proofs.Parts.{part-length}
-use Rattle.lists.proofs.Tables.{length-tab, getD-tab, tab-getD, tab-ext}
-use Rattle.theory.specs.Word.{Off, wt}
+use Rattle.lists.proofs.Tables.{length-tab, getD-tab}
+use Rattle.theory.specs.Word.{Off}
 use Rattle.theory.proofs.Field.{add-self}
 use Rattle.theory.proofs.Weight.{wt-max, wt-along}
 use Rattle.gf.specs.Field.{Modulus, size}
 use Rattle.gf.proofs.Cyclic.{Cyclic}
-use Rattle.gf.proofs.Elements.{El, el, plus}
-use Rattle.code.specs.Words.{CodeWord, apart}
-use Rattle.code.specs.Decoding.{Near, Decodes, Lent}
+use Rattle.gf.proofs.Elements.{el, plus}
+use Rattle.code.specs.Words.{apart}
+use Rattle.code.specs.Decoding.{Near, Lent}
 use Rattle.code.specs.declared.Decoded.{Decoded}
 use Rattle.code.specs.declared.Decoded.the-variants.{Word, None}
-use Rattle.code.specs.Area.{wordAt, sumsAt, decodeRoom}
-use Rattle.code.specs.Stages.{Wrote, AllZero, Summed, Held, Ready, Placed, SameWord, Corrected, Verdict, Judged, Decides}
+use Rattle.code.specs.Area.{wordAt, sumsAt}
+use Rattle.lists.specs.Parts.{Wrote}
+use Rattle.code.specs.Stages.{AllZero, Summed, Held, Ready, Placed, SameWord, Corrected, Verdict, Judged, Decides}
 use Rattle.code.proofs.Bridge.{K, word, apart-wt}
 use Rattle.code.proofs.Horner.{sum-ext}
-use Rattle.code.proofs.Parts.{part-at, part-is, part-same}
+use Rattle.code.proofs.Parts.{part-at, part-is}
 use Rattle.code.proofs.Locating.{ready-sum}
 
 -- ---- the word, judged by its power sums
@@ -72,7 +74,7 @@ apart-few F field n r p a b ha hb e =
 -- ---- the word is a code word at once
 module _ (F : Modulus) (n t : ℕ) (l l₁ : List ℕ) (H : Held F n t l) where
   same-part : SameWord n t l l₁ → part (wordAt t) n l₁ ≡ part (wordAt t) n l
-  same-part S = part-same (wordAt t) n l l₁ (omega (arith, H .room)) (S .long) (S .word)
+  same-part S = part-same (wordAt t) n l l₁ (S .long) (S .word)
 
   pub decided-at-once : (b : Bool) → Judged F n t l l₁ b → b ≡ true → Near F n t (part (wordAt t) n l) (part (wordAt t) n l₁)
   decided-at-once b I e =

@@ -1,20 +1,19 @@
 -- The theorems of the code, of lists of numbers: the distance, the one code word near a word, and a code word's being zero by k of its
 -- places. Over every modulus whose powers of α are all its elements but 0, for n at most their number.
 use mathlib.Core.Path.{_≡_, refl, sym, ap, _∙_}
-use mathlib.Core.Logic.{_≢_}
 use mathlib.Core.List.{List, []}
-use Prim.Native.Nat.{ℕ, zero, suc, _+_, _≤_, _<_}
+use Prim.Native.Nat.{ℕ, _+_, _≤_, _<_}
 use native.Mathlib.Omega.{arith}
-use lib.ListN.{length, getD}
+use lib.ListN.{getD}
 use lib.Seq.{ext-getD}
 use Rattle.theory.specs.Word.{Places, wt}
 use Rattle.theory.proofs.Weight.{wt-mono}
 use Rattle.theory.proofs.Field.{add-zero}
 use Rattle.theory.proofs.Distance.{vandermonde, unique, block}
-use Rattle.gf.specs.Field.{Modulus, order, size}
+use Rattle.gf.specs.Field.{Modulus, order}
 use Rattle.gf.proofs.Cyclic.{Cyclic}
 use Rattle.gf.proofs.Elements.{el, plus, el-injective, alpha-points}
-use Rattle.code.specs.Words.{CodeWord, weight, apart}
+use Rattle.code.specs.Words.{CodeWord, weight}
 use Rattle.code.specs.Decoding.{Near, Decodes}
 use Rattle.code.specs.declared.Decoded.{Decoded}
 use Rattle.code.specs.declared.Decoded.the-variants.{Word, None}

@@ -1,21 +1,20 @@
 -- Sums of c i·α^(ij): their clauses, Horner's rule, and the loop that computes m of them at once by it.
-use mathlib.Core.Path.{_≡_, refl, sym, ap, ap₂, _∙_}
-use mathlib.Core.Logic.{_≢_}
+use mathlib.Core.Path.{_≡_, refl, sym, ap, _∙_}
+use mathlib.Core.Logic.{inl, inr}
 use mathlib.Core.List.{List}
 use Prim.Native.Nat.{ℕ, zero, suc, _+_, _-_, _*_, _≤_, _<_}
 use native.Mathlib.Nat.{zero-mul, suc-mul}
-use native.Mathlib.Nat as N
 use native.Mathlib.Omega.{arith}
 use lib.ListN.{length, getD}
-use Rattle.lists.specs.Loops.{turns}
 use Rattle.gf.specs.Field.{Modulus, _⊕_, size, mul, alpha}
-use Rattle.gf.specs.Runs.{mulAt, mulRun}
-use Rattle.gf.proofs.Xor.{sums, add-assoc, add-comm, zero-left, zero-right}
+use Rattle.gf.specs.Runs.{mulRun}
+use Rattle.gf.proofs.Xor.{sums}
 use Rattle.gf.proofs.Ring.{mul-comm, mul-left-comm, mul-add-right, mul-zero-left, mul-one-right, alpha-add, alpha-zero}
 use Rattle.code.specs.Words.{sumOf}
-use Rattle.code.specs.Stages.{Wrote, Summed}
-use Rattle.theory.proofs.Place.{at-or}
-use Rattle.code.proofs.Writing.{wrote-none, wrote-more}
+use Rattle.lists.specs.Parts.{Wrote}
+use Rattle.code.specs.Stages.{Summed}
+use Rattle.theory.proofs.Place.{below-or}
+use Rattle.gf.proofs.Runs.{mul-length, mul-off, mul-at}
 
 module _ (F : Modulus) where
   pub sum-nil : (c : ℕ → ℕ) (j : ℕ) → sumOf F 0 c j ≡ 0
@@ -55,20 +54,13 @@ module _ (F : Modulus) where
       sum-first n c j ∙ rw (sum-ext n (λ i. c (suc i)) d j e, mul-one-right F (c 0) h)
 
 -- ---- the kernel `mul_run`, on two runs of which the second lies after the first
-module _ (F : Modulus) (dst src : ℕ) (l : List ℕ) where
-  mul-turns : (m n : ℕ) → m ≤ n → dst + n ≤ src → src + n ≤ length l → Wrote dst m (λ j. mul F (getD l (dst + j) 0) (getD l (src + j) 0)) l (turns (mulAt F dst src) m l)
-  unfolding turns
-  mul-turns zero n h o fits = wrote-none dst _ l
-  mul-turns (suc m) n h o fits =
-      let w = mul-turns m n (omega arith) o fits in
-      let prev = turns (mulAt F dst src) m l in
-      let next = wrote-more dst m n (λ j. mul F (getD l (dst + j) 0) (getD l (src + j) 0)) l prev (mul F (getD prev (dst + m) 0) (getD prev (src + m) 0)) w (omega arith) (omega arith) (rw (w .elsewhere (dst + m) (λ p q. omega arith), w .elsewhere (src + m) (λ p q. omega arith))) in
-      let q : m + 1 ≡ suc m = omega arith in
-      rw q at next
-
-  pub mul-run-wrote : (n : ℕ) → dst + n ≤ src → src + n ≤ length l → Wrote dst n (λ j. mul F (getD l (dst + j) 0) (getD l (src + j) 0)) l (mulRun F dst src n l)
-  unfolding mulRun
-  mul-run-wrote n o fits = mul-turns n n (omega arith) o fits
+pub mul-run-wrote : (F : Modulus) (dst src : ℕ) (l : List ℕ) (n : ℕ) → dst + n ≤ src → src + n ≤ length l → Wrote dst n (λ j. mul F (getD l (dst + j) 0) (getD l (src + j) 0)) l (mulRun F dst src n l)
+mul-run-wrote F dst src l n o fits =
+    record {
+      long = mul-length F dst src n l;
+      there = mul-at F dst src n l (omega arith) (inl (omega arith));
+      elsewhere = λ i out. mul-off F dst src n l i (below-or i dst (λ h. inl h) (λ h. inr (below-or i (dst + n) (λ g. absurd (out h g)) (λ g. g))));
+    }
 
 -- ---- a turn of Horner's rule: the products, then the sums
 pub horner-wrote : (F : Modulus) (dst m x : ℕ) (l l₁ l₂ : List ℕ) → dst + m + m ≤ length l → l₁ ≡ mulRun F dst (dst + m) m l → Wrote dst m (λ j. getD l₁ (dst + j) 0 ⊕ x) l₁ l₂

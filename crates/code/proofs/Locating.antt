@@ -3,19 +3,20 @@
 use mathlib.Core.Path.{_≡_, refl, sym, ap, _∙_}
 use mathlib.Core.Logic.{_≢_}
 use mathlib.Core.List.{List}
-use Prim.Native.Nat.{ℕ, zero, suc, _+_, _-_, _*_, _≤_, _<_}
+use Prim.Native.Nat.{ℕ, suc, _+_, _-_, _*_, _≤_, _<_}
 use native.Mathlib.Numerals.{add-one}
 use native.Mathlib.Omega.{arith}
-use lib.ListN.{length, getD, take}
+use lib.ListN.{getD, take}
 use lib.Seq.{getD-take}
 use Rattle.lists.specs.Parts.{part}
-use Rattle.theory.specs.Word.{put, Places, Off, NonZero, wt}
-use Rattle.theory.specs.Code.{Points, syn, IsCode, ev}
+use Rattle.lists.proofs.Writing.{part-same}
+use Rattle.theory.specs.Word.{put, Places, Off, NonZero}
+use Rattle.theory.specs.Code.{Points, syn, ev}
 use Rattle.theory.specs.Matrix.{Ker}
 use Rattle.theory.proofs.Field.{add-self-left, eq-of-add}
 use Rattle.theory.proofs.Place.{at-or, below-or, put-same, put-other}
 use Rattle.theory.proofs.Weight.{wt-places}
-use Rattle.theory.proofs.Poly.{few-roots, ev-ext}
+use Rattle.theory.proofs.Poly.{few-roots}
 use Rattle.theory.proofs.Steps.{ker-agree}
 use Rattle.theory.proofs.Decode.{no-error}
 use Rattle.gf.specs.Field.{Modulus, size, order, alpha}
@@ -25,14 +26,14 @@ use Rattle.linear.specs.Matrix.{Matrix, entry}
 use Rattle.linear.specs.Kernel.{kernelVector}
 use Rattle.linear.proofs.View.{view}
 use Rattle.linear.proofs.Vector.{vector-kernel, vector-nonzero, vector-small}
-use Rattle.code.specs.Words.{sumOf, powerSum, CodeWord, apart}
+use Rattle.code.specs.Words.{sumOf, powerSum, apart}
 use Rattle.code.specs.Decoding.{Near}
-use Rattle.code.specs.Area.{wordAt, sumsAt, locatorAt, valuesAt, pointsAt, placesAt, decodeRoom}
+use Rattle.code.specs.Area.{wordAt, sumsAt, locatorAt, valuesAt, pointsAt, placesAt}
 use Rattle.code.specs.Stages.{Rows, Solved, Summed, Collected, Ready, Placed, SameWord}
 use Rattle.code.proofs.Bridge.{K, X, word, sum-lt, zero-of-el, sum-syn, sum-ev, code-is, wt-apart}
 use Rattle.code.proofs.Horner.{sum-ext}
 use Rattle.code.proofs.Matrices.{entry-within, front-matrix}
-use Rattle.code.proofs.Parts.{part-at, part-same, part-sum}
+use Rattle.code.proofs.Parts.{part-at, part-sum}
 
 -- the power sums, of the word as a list
 pub ready-sum : (F : Modulus) (n t : ℕ) (l : List ℕ) → Ready F n t l → (j : ℕ) → j < t + t → getD l (sumsAt n t + j) 0 ≡ powerSum F n (part (wordAt t) n l) (suc j)
@@ -169,7 +170,7 @@ module _ (F : Modulus) (field : Cyclic F) (n t : ℕ) (l l₁ l₂ : List ℕ) (
       pub located : Placed F n t l₄ r
       located =
           let long = located-word .long in
-          let same : part (wordAt t) n l₄ ≡ part (wordAt t) n l = part-same (wordAt t) n l l₄ (omega (arith, R .held .room)) long (located-word .word) in
+          let same : part (wordAt t) n l₄ ≡ part (wordAt t) n l = part-same (wordAt t) n l l₄ long (located-word .word) in
           record {
             ready = record {
               held = record {

@@ -1,15 +1,12 @@
 -- The matrix at the front of the work area: filled row by row, eliminated, its kernel vector read off.
 use mathlib.Core.Path.{_≡_, refl, sym, ap, _∙_}
-use mathlib.Core.Logic.{_≢_}
 use mathlib.Core.List.{List, _++_}
-use Prim.Native.Nat.{ℕ, zero, suc, _+_, _-_, _*_, _≤_, _<_}
+use Prim.Native.Nat.{ℕ, suc, _+_, _-_, _*_, _≤_, _<_}
 use native.Mathlib.Nat.{mul-le-mul-right, suc-mul}
 use native.Mathlib.Omega.{arith}
-use lib.Dec.{eqb, ltb}
-use lib.ListN.{length, getD, take, drop, length-append, length-take, length-drop}
+use lib.ListN.{length, getD, take, drop, length-append, length-drop}
 use lib.Seq.{getD-take, getD-drop, take-at, getD-append-add, length-take-le}
 use borrow.Author.Tests.{eq-eqb, ne-eqb, lt-ltb, le-ltb}
-use Rattle.lists.specs.Loops.{pick, tab}
 use Rattle.lists.proofs.Tables.{getD-tab}
 use Rattle.theory.proofs.Place.{at-or, below-or}
 use Rattle.gf.specs.Field.{Modulus}
@@ -18,7 +15,8 @@ use Rattle.linear.specs.Matrix.{Matrix, entry}
 use Rattle.linear.specs.Elimination.{eliminated, Ended}
 use Rattle.linear.specs.Kernel.{kernelAt, kernelVector}
 use Rattle.linear.proofs.Laws.{end-length}
-use Rattle.code.specs.Stages.{Wrote, Rows, Eliminated, Solved}
+use Rattle.lists.specs.Parts.{Wrote}
+use Rattle.code.specs.Stages.{Rows, Eliminated, Solved}
 
 -- ---- where a row and an entry lie
 pub row-within : (i rows cols n : ℕ) → i < rows → rows * cols ≤ n → i * cols + cols ≤ n

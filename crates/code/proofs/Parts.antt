@@ -1,13 +1,13 @@
 -- The word as a part of the work area.
-use mathlib.Core.Path.{_≡_, refl, sym, ap, _∙_}
+use mathlib.Core.Path.{_≡_, sym, _∙_}
 use mathlib.Core.List.{List}
 use Prim.Native.Nat.{ℕ, _+_, _≤_, _<_}
 use native.Mathlib.Omega.{arith}
-use lib.ListN.{length, getD, take, drop}
+use lib.ListN.{length, getD, drop}
 use lib.Seq.{getD-take, getD-drop, ext-getD}
 use Rattle.lists.specs.Parts.{part}
 use Rattle.lists.proofs.Parts.{part-length}
-use Rattle.gf.specs.Field.{Modulus, size}
+use Rattle.gf.specs.Field.{Modulus}
 use Rattle.code.specs.Words.{sumOf, powerSum}
 use Rattle.code.proofs.Horner.{sum-ext}
 
@@ -19,10 +19,6 @@ pub part-is : (a n : ℕ) (l w : List ℕ) → a + n ≤ length l → length w �
 part-is a n l w fits long e =
     let m : length (part a n l) ≡ n = part-length a n l fits in
     ext-getD 0 (part a n l) w (m ∙ sym long) (λ i h. let g : i < n = omega arith in part-at a n l i g ∙ e i g)
-
-pub part-same : (a n : ℕ) (l l′ : List ℕ) → a + n ≤ length l → length l′ ≡ length l → ((i : ℕ) → i < n → getD l′ (a + i) 0 ≡ getD l (a + i) 0) → part a n l′ ≡ part a n l
-part-same a n l l′ fits long e =
-    part-is a n l′ (part a n l) (omega arith) (part-length a n l fits) (λ i h. e i h ∙ sym (part-at a n l i h))
 
 pub part-sum : (F : Modulus) (a n : ℕ) (l : List ℕ) (j : ℕ) → sumOf F n (λ i. getD l (a + i) 0) j ≡ powerSum F n (part a n l) j
 part-sum F a n l j = sum-ext F n (λ i. getD l (a + i) 0) (λ i. getD (part a n l) i 0) j (λ i h. sym (part-at a n l i h))

@@ -1,6 +1,6 @@
 -- Powers of α: the next one is α times the last.
-use mathlib.Core.Path.{_≡_, refl, sym, ap, ap₂, _∙_}
-use Prim.Native.Nat.{ℕ, zero, suc, _+_, _*_}
+use mathlib.Core.Path.{_≡_, sym, ap, ap₂, _∙_}
+use Prim.Native.Nat.{ℕ, _+_}
 use native.Mathlib.Omega.{arith}
 use Rattle.gf.specs.Field.{Modulus, mul, alpha}
 use Rattle.gf.proofs.Ring.{alpha-add}

@@ -1,6 +1,6 @@
 -- The work area of decoding is at most 4·n·n numbers, for t at least 1 and 2t at most n.
-use Prim.Native.Nat.{ℕ, suc, _+_, _*_, _≤_}
-use native.Mathlib.Nat.{mul-le-mul-right, mul-le-mul-left, mul-add, add-mul, mul-one, mul-comm}
+use Prim.Native.Nat.{ℕ, _+_, _*_, _≤_}
+use native.Mathlib.Nat.{mul-le-mul-right, mul-le-mul-left, add-mul}
 use native.Mathlib.Omega.{arith}
 use Rattle.code.specs.Area.{decodeRoom}
 

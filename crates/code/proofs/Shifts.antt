@@ -1,20 +1,14 @@
 -- The generator's list is the generator of `theory`: so its shifts are code words, and independent.
 use mathlib.Core.Path.{_≡_, refl, sym, ap, ap₂, _∙_}
-use mathlib.Core.Logic.{_≢_}
-use mathlib.Core.List.{List, [], _∷_}
+use mathlib.Core.List.{List}
 use Prim.Native.Nat.{ℕ, zero, suc, _+_, _-_, _*_, _≤_, _<_}
-use native.Mathlib.Nat as N
 use native.Mathlib.Omega.{arith}
-use lib.Dec.{ltb}
 use lib.ListN.{length, getD}
 use lib.Pow.{pow-pos}
 use borrow.Author.Tests.{lt-ltb, le-ltb}
-use Rattle.lists.specs.Loops.{pick, tab}
 use Rattle.lists.proofs.Tables.{length-tab, getD-tab}
-use Rattle.theory.specs.Field.{Field}
-use Rattle.theory.specs.Word.{IsZero, unit, sum, pow}
-use Rattle.theory.specs.Code.{syn, IsCode, product, gen, G0}
-use Rattle.theory.specs.Code as theory
+use Rattle.theory.specs.Word.{unit, sum, pow}
+use Rattle.theory.specs.Code.{syn, IsCode, gen, G0}
 use Rattle.theory.specs.Matrix.{comb}
 use Rattle.theory.proofs.Place.{below-or}
 use Rattle.theory.proofs.Sum.{sum-ext, unit-same, unit-other}

@@ -1,17 +1,17 @@
 -- The values: the equations of the power sums at the places found have one solution (Vandermonde), and where a code word is near, that is
 -- what the word is wrong by; so adding it gives the code word.
-use mathlib.Core.Path.{_≡_, refl, sym, ap, ap₂, _∙_}
+use mathlib.Core.Path.{_≡_, sym, ap, ap₂, _∙_}
 use mathlib.Core.Logic.{_≢_, _⊎_, inl, inr}
 use mathlib.Core.List.{List}
-use Prim.Native.Nat.{ℕ, zero, suc, _+_, _-_, _*_, _≤_, _<_}
+use Prim.Native.Nat.{ℕ, suc, _+_, _-_, _*_, _≤_, _<_}
 use native.Mathlib.Nat.{mul-le-mul-right, mul-le-mul-left}
 use native.Mathlib.Numerals.{add-one}
 use native.Mathlib.Omega.{arith}
-use lib.ListN.{length, getD, take}
+use lib.ListN.{getD, take}
 use lib.Seq.{getD-take}
 use Rattle.lists.specs.Parts.{part}
-use Rattle.theory.specs.Word.{Places, Off, IsZero, sum, pow, wt}
-use Rattle.theory.specs.Code.{Points, syn, IsCode}
+use Rattle.theory.specs.Word.{Places, Off, IsZero, sum, pow}
+use Rattle.theory.specs.Code.{Points, syn}
 use Rattle.theory.specs.Matrix.{Ker}
 use Rattle.theory.proofs.Field.{add-self-left, add-self, mul-comm, add-left-comm}
 use Rattle.theory.proofs.Place.{below-or, find-place}
@@ -30,11 +30,12 @@ use Rattle.linear.specs.Kernel.{kernelVector}
 use Rattle.linear.proofs.View.{view}
 use Rattle.linear.proofs.Laws.{right-full}
 use Rattle.linear.proofs.Vector.{vector-solves, vector-small}
-use Rattle.code.specs.Words.{sumOf, powerSum, CodeWord, apart}
+use Rattle.code.specs.Words.{powerSum, apart}
 use Rattle.code.specs.Decoding.{Near}
-use Rattle.code.specs.Area.{wordAt, sumsAt, locatorAt, valuesAt, pointsAt, placesAt, decodeRoom}
-use Rattle.code.specs.Stages.{Wrote, PowerRows, Solved, Added, Ready, Placed, Corrected}
-use Rattle.code.proofs.Bridge.{K, X, word, point-pow, sum-lt, sum-syn, code-is, wt-apart}
+use Rattle.code.specs.Area.{wordAt, sumsAt, locatorAt, valuesAt, pointsAt, placesAt}
+use Rattle.lists.specs.Parts.{Wrote}
+use Rattle.code.specs.Stages.{PowerRows, Solved, Added, Placed, Corrected}
+use Rattle.code.proofs.Bridge.{K, X, word, point-pow, sum-lt, sum-syn, code-is}
 use Rattle.code.proofs.Matrices.{entry-within, front-matrix}
 use Rattle.code.proofs.Parts.{part-at}
 use Rattle.code.proofs.Locating.{ready-sum}

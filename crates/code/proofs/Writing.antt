@@ -1,32 +1,13 @@
--- A loop that writes a run of the work area, one number a turn.
-use mathlib.Core.Path.{_≡_, refl, sym, ap, _∙_}
-use mathlib.Core.Logic.{_≢_}
+-- The loops over a run of the work area: what is added to or copied was not written yet; a search for a number that is not 0.
+use mathlib.Core.Path.{_≡_}
 use mathlib.Core.List.{List}
-use Prim.Native.Nat.{ℕ, zero, suc, _+_, _≤_, _<_}
-use native.Mathlib.Numerals.{add-one}
+use Prim.Native.Nat.{ℕ, _+_, _≤_, _<_}
 use native.Mathlib.Omega.{arith}
-use lib.ListN.{length, getD, set, length-set}
-use lib.Seq.{getD-set-same, getD-set-other}
+use lib.ListN.{length, getD, set}
+use Rattle.lists.specs.Parts.{Wrote}
+use Rattle.lists.proofs.Writing.{wrote-more}
 use Rattle.theory.proofs.Place.{at-or}
 use Rattle.gf.specs.Field.{_⊕_}
-use Rattle.code.specs.Stages.{Wrote}
-
-pub wrote-none : (a : ℕ) (f : ℕ → ℕ) (l : List ℕ) → Wrote a 0 f l l
-wrote-none a f l = record { long = refl; there = λ i h. absurd (omega arith); elsewhere = λ i o. refl }
-
-pub wrote-more : (a i n : ℕ) (f : ℕ → ℕ) (l₀ l : List ℕ) (v : ℕ) → Wrote a i f l₀ l → i < n → a + n ≤ length l₀ → v ≡ f i → Wrote a (i + 1) f l₀ (set l (a + i) v)
-wrote-more a i n f l₀ l v w lt fits e =
-    let h : a + i < length l = omega arith in
-    record {
-      long = simp length-set (w .long);
-      there = λ j k. at-or j i
-          (λ q. rw q (getD-set-same l (a + i) v 0 h ∙ e))
-          (λ d. getD-set-other l (a + i) (a + j) v 0 (omega arith) ∙ w .there j (omega arith));
-      elsewhere = λ j o. getD-set-other l (a + i) j v 0 (λ q. o (omega arith) (omega arith)) ∙ w .elsewhere j (λ p q. o p (omega arith));
-    }
-
-pub wrote-end : (a n i : ℕ) (f : ℕ → ℕ) (l₀ l : List ℕ) → Wrote a i f l₀ l → i ≤ n → n ≤ i → Wrote a n f l₀ l
-wrote-end a n i f l₀ l w h g = let q : i ≡ n = omega arith in rw q at w
 
 -- what is added to was not written yet
 pub added-more : (a i n : ℕ) (l₀ l : List ℕ) (c : ℕ) → Wrote a i (λ j. getD l₀ (a + j) 0 ⊕ c) l₀ l → i < n → a + n ≤ length l₀

@@ -3,7 +3,7 @@ use mathlib.Core.Path.{_≡_}
 use mathlib.Core.Logic.{_≢_}
 use mathlib.Core.Bool.{Bool, true, false}
 use mathlib.Core.List.{List}
-use Prim.Native.Nat.{ℕ, suc, _+_, _*_, _<_, _≤_}
+use Prim.Native.Nat.{ℕ, _+_, _*_, _<_, _≤_}
 use lib.ListN.{length, getD, set, take}
 use Rattle.lists.specs.Parts.{part}
 use Rattle.gf.specs.Field.{Modulus, _⊕_, size, order, mul, alpha}
@@ -15,12 +15,6 @@ use Rattle.code.specs.Decoding.{Near}
 use Rattle.code.specs.declared.Decoded.{Decoded}
 use Rattle.code.specs.declared.Decoded.the-variants.{Word, None}
 use Rattle.code.specs.Area.{wordAt, sumsAt, pointsAt, placesAt, decodeRoom}
-
--- the n numbers from a on are f 0, f 1, ..; the others are as they were
-pub record Wrote (a n : ℕ) (f : ℕ → ℕ) (l l′ : List ℕ) : Type 0 where
-  pub long : length l′ ≡ length l
-  pub there : (i : ℕ) → i < n → getD l′ (a + i) 0 ≡ f i
-  pub elsewhere : (i : ℕ) → (a ≤ i → i < a + n → ⊥) → getD l′ i 0 ≡ getD l i 0
 
 -- the n numbers from a on are all 0, or one of them is not
 abbrev pub AllZero : ℕ → ℕ → List ℕ → Bool → Type 0

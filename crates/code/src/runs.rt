@@ -5,7 +5,8 @@ ghost use lib.ListN.{length, getD};
 ghost use Rattle.lists.specs.Loops.{tab};
 ghost use Rattle.gf.specs.Field.{_⊕_, alpha};
 ghost use Rattle.gf.specs.Ten.{ten};
-ghost use Rattle.code.specs.Stages.{Wrote, AllZero};
+ghost use Rattle.lists.specs.Parts.{Wrote};
+ghost use Rattle.code.specs.Stages.{AllZero};
 
 // The n numbers from `at` on become 0.
 pub fn clear(s: &mut [u16], at: usize, n: usize)

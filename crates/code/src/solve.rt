@@ -5,7 +5,8 @@ ghost use lib.ListN.{length};
 ghost use Rattle.gf.specs.Ten.{ten};
 ghost use Rattle.linear.specs.Matrix.{Matrix, entry};
 ghost use Rattle.linear.specs.Kernel.{kernelAt};
-ghost use Rattle.code.specs.Stages.{Wrote, Eliminated, Solved};
+ghost use Rattle.lists.specs.Parts.{Wrote};
+ghost use Rattle.code.specs.Stages.{Eliminated, Solved};
 
 // Eliminates the matrix at the front as far as its rows go. Answers how many columns are done.
 fn eliminate_front(s: &mut [u16], rows: usize, cols: usize) -> usize

@@ -4,7 +4,8 @@ ghost use Prim.Native.Nat.{ℕ, _+_, _≤_, _<_};
 ghost use lib.ListN.{length, getD};
 ghost use Rattle.gf.specs.Field.{_⊕_, size, mul};
 ghost use Rattle.gf.specs.Ten.{ten};
-ghost use Rattle.code.specs.Stages.{Wrote, Summed};
+ghost use Rattle.lists.specs.Parts.{Wrote};
+ghost use Rattle.code.specs.Stages.{Summed};
 
 // One turn of Horner's rule: each of the m numbers from dst on is multiplied by its partner, m places further on, and
 // the number at `at` is added.

@@ -4,7 +4,8 @@ ghost use Prim.Native.Nat.{ℕ, _+_, _*_, _≤_, _<_};
 ghost use lib.ListN.{length, getD, set};
 ghost use Rattle.gf.specs.Field.{_⊕_, alpha};
 ghost use Rattle.gf.specs.Ten.{ten};
-ghost use Rattle.code.specs.Stages.{Wrote, PowerRow, PowerRows, Added, Placed, Corrected};
+ghost use Rattle.lists.specs.Parts.{Wrote};
+ghost use Rattle.code.specs.Stages.{PowerRow, PowerRows, Added, Placed, Corrected};
 
 // The number at `at`, which is a place.
 fn place(s: &[u16], at: usize) -> usize

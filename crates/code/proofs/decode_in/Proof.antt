@@ -1,5 +1,4 @@
 -- A code word at once; or the word corrected at the places found, if that is one; or none.
-use mathlib.Core.Path.{refl}
 use Rattle.gf.specs.Ten.{ten}
 use Rattle.gf.proofs.Ten.{ten-field}
 use Rattle.code.proofs.Deciding.{decided-at-once, corrected-held, decided-word, decided-none}

@@ -1,7 +1,7 @@
 -- The coefficients of the product of the first i - 1 factors stand there, with zeros after them.
 use mathlib.Core.Path.{_≡_, refl}
-use Prim.Native.Nat.{ℕ, _+_, _-_, _≤_, _<_}
-use lib.ListN.{length, getD, length-set}
+use Prim.Native.Nat.{_-_, _≤_, _<_}
+use lib.ListN.{length, length-set}
 use Rattle.gf.specs.Ten.{ten}
 use Rattle.code.specs.Generator.{generator}
 use Rattle.code.proofs.Coefficients.{Holds, holds-one, holds-more, holds-end}

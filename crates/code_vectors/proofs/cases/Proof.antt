@@ -1,11 +1,10 @@
 -- The area keeps its length.
 use mathlib.Core.Path.{_≡_}
-use Prim.Native.Nat.{ℕ, _+_, _-_, _≤_, _<_}
-use lib.ListN.{length, getD}
+use Prim.Native.Nat.{_-_, _≤_}
+use lib.ListN.{length}
 use borrow.Author.Needs.{needs}
 use Rattle.code_vectors.proofs.cases.Statement.{statement}
 use Rattle.code_vectors.proofs.cases.Tie as tie
-use Rattle.code_vectors.proofs.case.Reads as case-reads
 
 abbrev Inv-loop : tie.InvT-loop
 Inv-loop area₀ work₀ n t most e₀ area work e = (e ≤ most) × (length area ≡ length area₀) × (length work ≡ length work₀)

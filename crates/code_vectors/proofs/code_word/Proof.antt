@@ -1,15 +1,10 @@
 -- The area keeps its length.
 use mathlib.Core.Path.{_≡_}
-use Prim.Native.Nat.{ℕ, _+_, _-_, _≤_, _<_}
-use lib.ListN.{length, getD}
+use Prim.Native.Nat.{_-_, _≤_}
+use lib.ListN.{length}
 use borrow.Author.Needs.{needs}
 use Rattle.code_vectors.proofs.code_word.Statement.{statement}
 use Rattle.code_vectors.proofs.code_word.Tie as tie
-use Rattle.code.proofs.generator.Reads as generator-reads
-use Rattle.code_vectors.proofs.element.Reads as element-reads
-use Rattle.code_vectors.proofs.next.Reads as next-reads
-use Rattle.gf.proofs.add_run.Reads as add-run-reads
-use Rattle.lists.proofs.wipe_numbers.Reads as wipe-numbers-reads
 
 abbrev Inv-loop : tie.InvT-loop
 Inv-loop area₀ n s seed end x₀ i₀ area x i = (i ≤ n - s) × (length area ≡ length area₀)

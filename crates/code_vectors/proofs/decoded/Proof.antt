@@ -1,12 +1,10 @@
 -- The tests are what decoding asks.
-use lib.ListN.{length, getD}
+use lib.ListN.{length}
 use native.Mathlib.Omega.{arith}
 use Rattle.code_vectors.proofs.Laws.{lent, room-fits}
 use borrow.Author.Needs.{needs}
 use Rattle.code_vectors.proofs.decoded.Statement.{statement}
 use Rattle.code_vectors.proofs.decoded.Tie as tie
-use Rattle.code.proofs.decode.Reads as decode-reads
-use Rattle.code_vectors.proofs.all_small.Reads as all-small-reads
 
 returns : tie.Need-returns
 returns c = search needs

@@ -1,13 +1,9 @@
 -- The index stays within the word.
-use mathlib.Core.Path.{_≡_}
-use Prim.Native.Nat.{ℕ, _+_, _-_, _≤_, _<_}
-use lib.ListN.{length, getD}
+use Prim.Native.Nat.{_-_, _≤_}
+use lib.ListN.{length}
 use borrow.Author.Needs.{needs}
 use Rattle.code_vectors.proofs.print_word.Statement.{statement}
 use Rattle.code_vectors.proofs.print_word.Tie as tie
-use Rattle.code_vectors.proofs.wide.Reads as wide-reads
-use Rattle.io.proofs.print_decimal.Reads as print-decimal-reads
-use Rattle.io.proofs.write_all.Reads as write-all-reads
 
 abbrev Inv-loop : tie.InvT-loop
 Inv-loop word i₀ t3 i = i ≤ length word

@@ -1,14 +1,10 @@
 -- The area keeps its length.
 use mathlib.Core.Path.{_≡_}
-use Prim.Native.Nat.{ℕ, _+_, _-_, _≤_, _<_}
-use lib.ListN.{length, getD}
+use Prim.Native.Nat.{_-_, _≤_}
+use lib.ListN.{length}
 use borrow.Author.Needs.{needs}
 use Rattle.code_vectors.proofs.spoil.Statement.{statement}
 use Rattle.code_vectors.proofs.spoil.Tie as tie
-use Rattle.code_vectors.proofs.element.Reads as element-reads
-use Rattle.code_vectors.proofs.next.Reads as next-reads
-use Rattle.code_vectors.proofs.place.Reads as place-reads
-use Rattle.code_vectors.proofs.strike.Reads as strike-reads
 
 abbrev Inv-loop : tie.InvT-loop
 Inv-loop area₀ n e seed x₀ k₀ area x k = (k ≤ e) × (length area ≡ length area₀)

@@ -1,7 +1,7 @@
 -- What is held is right for the places below p.
 use mathlib.Core.Path.{_≡_}
-use Prim.Native.Nat.{ℕ, _+_, _-_, _*_, _≤_, _<_}
-use lib.ListN.{length, getD}
+use Prim.Native.Nat.{_-_, _≤_}
+use lib.ListN.{length}
 use Rattle.code.specs.Stages.{Collected}
 use Rattle.code.proofs.Collecting.{kept-few, collected-none, collected-more, collected-end}
 use borrow.Author.Needs.{needs}

@@ -1,10 +1,10 @@
 -- The first i rows are filled, and the rest is as it was.
 use mathlib.Core.Path.{_≡_}
-use Prim.Native.Nat.{ℕ, _+_, _-_, _*_, _≤_, _<_}
+use Prim.Native.Nat.{_+_, _-_, _≤_}
 use native.Mathlib.Omega.{arith}
 use lib.ListN.{length, getD}
 use Rattle.code.specs.Stages.{Rows}
-use Rattle.code.proofs.Matrices.{row-within, rows-up, rows-none, key-more, rows-end}
+use Rattle.code.proofs.Matrices.{row-within, rows-none, key-more, rows-end}
 use borrow.Author.Needs.{needs}
 use Rattle.code.proofs.places.key_rows.Statement.{statement}
 use Rattle.code.proofs.places.key_rows.Tie as tie

@@ -1,7 +1,7 @@
 -- The coefficients past j are done, the others as they were.
 use mathlib.Core.Path.{_≡_}
-use Prim.Native.Nat.{ℕ, _+_, _-_, _≤_, _<_}
-use lib.ListN.{length, getD, length-set}
+use Prim.Native.Nat.{_-_, _<_}
+use lib.ListN.{length}
 use Rattle.gf.specs.Ten.{ten}
 use Rattle.code.proofs.Coefficients.{Passed, passed-none, passed-more, passed-end}
 use borrow.Author.Needs.{needs}

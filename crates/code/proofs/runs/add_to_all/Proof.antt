@@ -1,10 +1,11 @@
 -- The first i numbers of the run are added to, and the rest is as it was.
 use mathlib.Core.Path.{_≡_}
-use Prim.Native.Nat.{ℕ, _+_, _-_, _≤_, _<_}
+use Prim.Native.Nat.{_+_, _-_, _≤_}
 use lib.ListN.{length, getD}
-use Rattle.gf.specs.Field.{_⊕_, alpha}
-use Rattle.code.specs.Stages.{Wrote}
-use Rattle.code.proofs.Writing.{wrote-none, added-more, wrote-end}
+use Rattle.gf.specs.Field.{_⊕_}
+use Rattle.lists.specs.Parts.{Wrote}
+use Rattle.lists.proofs.Writing.{wrote-none, wrote-end}
+use Rattle.code.proofs.Writing.{added-more}
 use borrow.Author.Needs.{needs}
 use Rattle.code.proofs.runs.add_to_all.Statement.{statement}
 use Rattle.code.proofs.runs.add_to_all.Tie as tie

@@ -1,7 +1,7 @@
 -- The first i numbers of the run are 0.
 use mathlib.Core.Path.{_≡_}
 use Prim.Native.Nat.{ℕ, _+_, _-_, _≤_, _<_}
-use lib.ListN.{length, getD}
+use lib.ListN.{getD}
 use Rattle.code.proofs.Writing.{zeros-more, zeros-end}
 use native.Mathlib.Omega.{arith}
 use borrow.Author.Needs.{needs}

@@ -1,9 +1,9 @@
 -- The first i numbers of the run are copied, and the rest is as it was.
 use mathlib.Core.Path.{_≡_}
-use Prim.Native.Nat.{ℕ, _+_, _-_, _≤_, _<_}
+use Prim.Native.Nat.{_-_, _≤_}
 use lib.ListN.{length, getD}
-use Rattle.code.specs.Stages.{Wrote}
-use Rattle.code.proofs.Writing.{wrote-none, wrote-more, wrote-end}
+use Rattle.lists.specs.Parts.{Wrote}
+use Rattle.lists.proofs.Writing.{wrote-none, wrote-more, wrote-end}
 use borrow.Author.Needs.{needs}
 use Rattle.code.proofs.runs.copy_in.Statement.{statement}
 use Rattle.code.proofs.runs.copy_in.Tie as tie

@@ -1,7 +1,7 @@
 -- The first i numbers of the word are copied, and the rest is as it was.
-use mathlib.Core.Path.{_≡_, refl}
+use mathlib.Core.Path.{_≡_}
 use mathlib.Core.List.{_++_}
-use Prim.Native.Nat.{ℕ, _+_, _-_, _≤_, _<_}
+use Prim.Native.Nat.{_+_, _-_, _≤_}
 use lib.ListN.{length, getD, drop}
 use Rattle.lists.specs.Loops.{tab}
 use Rattle.lists.proofs.Tables.{tab-none, tab-more, tab-done}
@@ -40,13 +40,13 @@ loop-less : tie.Need-loop-less Inv-loop μ-loop
 loop-less c = search needs
 
 loop-again : tie.Need-loop-again Inv-loop μ-loop
-loop-again c = (search needs, search needs, search (tab-more, refl))
+loop-again c = (search needs, search needs, search tab-more)
 
 same-length : tie.Need-same-length Inv-loop μ-loop
 same-length c = search needs
 
 returns : tie.Need-returns Inv-loop μ-loop
-returns c = search (tab-done, refl)
+returns c = search tab-done
 
 pub copy-out-spec : {M : Type 1} → statement M
 copy-out-spec =

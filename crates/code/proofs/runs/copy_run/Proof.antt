@@ -1,9 +1,10 @@
 -- The first i numbers of the run are copied, and the rest is as it was; so is all that is copied from.
 use mathlib.Core.Path.{_≡_}
-use Prim.Native.Nat.{ℕ, _+_, _-_, _≤_, _<_}
+use Prim.Native.Nat.{_+_, _-_, _≤_}
 use lib.ListN.{length, getD}
-use Rattle.code.specs.Stages.{Wrote}
-use Rattle.code.proofs.Writing.{wrote-none, copied-more, wrote-end}
+use Rattle.lists.specs.Parts.{Wrote}
+use Rattle.lists.proofs.Writing.{wrote-none, wrote-end}
+use Rattle.code.proofs.Writing.{copied-more}
 use borrow.Author.Needs.{needs}
 use Rattle.code.proofs.runs.copy_run.Statement.{statement}
 use Rattle.code.proofs.runs.copy_run.Tie as tie

@@ -1,11 +1,11 @@
 -- The first i numbers of the run are powers of α, and x is the next one.
 use mathlib.Core.Path.{_≡_}
-use Prim.Native.Nat.{ℕ, _+_, _-_, _≤_, _<_}
-use lib.ListN.{length, getD}
-use Rattle.gf.specs.Field.{_⊕_, alpha}
+use Prim.Native.Nat.{_+_, _-_, _≤_}
+use lib.ListN.{length}
+use Rattle.gf.specs.Field.{alpha}
 use Rattle.gf.specs.Ten.{ten}
-use Rattle.code.specs.Stages.{Wrote}
-use Rattle.code.proofs.Writing.{wrote-none, wrote-more, wrote-end}
+use Rattle.lists.specs.Parts.{Wrote}
+use Rattle.lists.proofs.Writing.{wrote-none, wrote-more, wrote-end}
 use Rattle.code.proofs.Powers.{alpha-start, alpha-next}
 use borrow.Author.Needs.{needs}
 use Rattle.code.proofs.runs.fill_powers.Statement.{statement}

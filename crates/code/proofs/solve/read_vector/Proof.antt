@@ -1,10 +1,10 @@
 -- The first j numbers are read, and the matrix is as it was.
 use mathlib.Core.Path.{_≡_}
-use Prim.Native.Nat.{ℕ, _+_, _-_, _*_, _≤_, _<_}
-use lib.ListN.{length, getD}
+use Prim.Native.Nat.{_-_, _≤_}
+use lib.ListN.{length}
 use Rattle.linear.specs.Kernel.{kernelAt}
-use Rattle.code.specs.Stages.{Wrote}
-use Rattle.code.proofs.Writing.{wrote-none, wrote-more, wrote-end}
+use Rattle.lists.specs.Parts.{Wrote}
+use Rattle.lists.proofs.Writing.{wrote-none, wrote-more, wrote-end}
 use Rattle.code.proofs.Matrices.{read-more}
 use borrow.Author.Needs.{needs}
 use Rattle.code.proofs.solve.read_vector.Statement.{statement}

@@ -1,6 +1,5 @@
 -- The three cases of the definition.
 use Rattle.code.proofs.Matrices.{entry-within, vector-below, vector-one, vector-zero}
-use borrow.Author.Needs.{needs}
 use Rattle.code.proofs.solve.vector_at.Statement.{statement}
 use Rattle.code.proofs.solve.vector_at.Tie as tie
 

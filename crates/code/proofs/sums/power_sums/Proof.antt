@@ -1,7 +1,7 @@
 -- The numbers from place i of the word on are taken in.
 use mathlib.Core.Path.{_≡_}
-use Prim.Native.Nat.{ℕ, _+_, _-_, _≤_, _<_}
-use lib.ListN.{length, getD}
+use Prim.Native.Nat.{_+_, _-_, _≤_}
+use lib.ListN.{length}
 use Rattle.gf.specs.Ten.{ten}
 use Rattle.code.specs.Stages.{Summed}
 use Rattle.code.proofs.Horner.{summed-none, summed-more, summed-end}

@@ -1,5 +1,4 @@
 -- What is stored is what the contract says.
-use mathlib.Core.Path.{_≡_}
 use borrow.Author.Needs.{needs}
 use Rattle.code.proofs.values.add_one.Statement.{statement}
 use Rattle.code.proofs.values.add_one.Tie as tie

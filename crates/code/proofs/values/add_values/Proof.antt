@@ -1,7 +1,7 @@
 -- The first k values are added, and the rest is as it was.
 use mathlib.Core.Path.{_≡_}
-use Prim.Native.Nat.{ℕ, _+_, _-_, _*_, _≤_, _<_}
-use lib.ListN.{length, getD}
+use Prim.Native.Nat.{_-_, _≤_}
+use lib.ListN.{length}
 use Rattle.code.specs.Stages.{Added}
 use Rattle.code.proofs.Correcting.{added-none, added-fits, added-more, added-end}
 use borrow.Author.Needs.{needs}

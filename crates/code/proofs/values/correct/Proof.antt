@@ -1,5 +1,4 @@
 -- The points at the places found, the equations, their solution, and the word with it added.
-use Prim.Native.Nat.{_+_}
 use native.Mathlib.Omega.{arith}
 use Rattle.gf.specs.Ten.{ten}
 use Rattle.gf.proofs.Ten.{ten-field}

@@ -1,6 +1,4 @@
 -- The row, then the number at its end, then the products.
-use mathlib.Core.Path.{_≡_}
-use native.Mathlib.Omega.{arith}
 use lib.ListN.{length-set}
 use Rattle.code.proofs.Correcting.{power-row}
 use borrow.Author.Needs.{needs}
