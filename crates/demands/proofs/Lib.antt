@@ -1,0 +1,37 @@
+-- The theorems of specs/Demands.antt; they stand together in Demands. The main ones are marked THEOREM where they stand:
+--   Finding    at-most-one (every key that is neither malformed nor singular)
+--   Opening    opens, once (every good pair)
+--   Only       only (every key)
+--   Promised   promised (every good pair: demand 3)
+--   Setup      setup-pairs (every pair of setup is good)
+--   Blocks     block-triple, sealed (what sealing gives is the ciphertext of a triple)
+--   Calls      open-all, seal-opens;  Wrapping  wrap-opens
+--   Settled    open-once, unwrap-once (what opening promises leaves one answer, for all inputs)
+--   Demands    known-demands (all of it, of every set of the table)
+-- opening, of any key
+mod Sound
+mod Reading
+pub mod Finding
+-- triples and good pairs
+mod Lost
+mod Errors
+mod Pairs
+mod Sent
+mod Triples
+pub mod Opening
+pub mod Only
+pub mod Promised
+-- setup
+mod Drawing
+mod Keys
+mod Chain
+mod Made
+mod Matrices
+pub mod Setup
+-- the calls
+pub mod Blocks
+pub mod Calls
+pub mod Wrapping
+pub mod Known
+pub mod Settled
+pub mod Demands

@@ -1,0 +1,2 @@
+-- The promises about key pairs.
+pub mod Demands

@@ -1,0 +1,1 @@
+-- No definitions: the crate holds laws alone.
