@@ -1,21 +1,20 @@
 -- What a random block gives: its places rise, lie below n + w and are t; the word that is sent with them is the ciphertext of the triple.
-use mathlib.Core.Path.{_≡_, refl, sym, ap, ap₂, _∙_}
-use mathlib.Core.Bool.{Bool, true, false}
+use mathlib.Core.Path.{_≡_, sym, ap, _∙_}
 use mathlib.Core.List.{List}
-use Prim.Native.Nat.{ℕ, _+_, _-_, _*_, _/_, _≤_, _<_}
+use Prim.Native.Nat.{ℕ, _+_, _-_, _*_, _≤_, _<_}
 use native.Mathlib.Nat.{zero-add}
 use native.Mathlib.Omega.{arith}
 use lib.ListN.{length, getD, take, drop}
 use lib.Seq.{getD-take, getD-drop}
 use Rattle.lists.specs.Parts.{part}
-use Rattle.bits.specs.Bits.{packed, bytesFor, Small}
+use Rattle.bits.specs.Bits.{packed, bytesFor}
 use Rattle.bits.proofs.Packing.{elements-small, length-packed}
 use Rattle.sets.specs.declared.Set.{Set}
 use Rattle.sets.specs.Valid.{Valid}
 use Rattle.perm.specs.Shuffle.{shuffled}
 use Rattle.scheme.specs.Lists.{has}
 use Rattle.scheme.specs.Keys.{publicGE}
-use Rattle.scheme.specs.Sealing.{sent, tripleElements, errorValues, ciphertext, blockSeed, blockPlaces, blockAt, sealedBy}
+use Rattle.scheme.specs.Sealing.{sent, tripleElements, errorValues, ciphertext, blockSeed, blockPlaces}
 use Rattle.sealing.specs.Steps.{Room, Rising, Drawn, Ready}
 use Rattle.sealing.proofs.Selections.{chosen}
 use Rattle.sealing.proofs.Choosing.{count-places}

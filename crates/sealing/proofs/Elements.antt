@@ -1,17 +1,17 @@
 -- The search for a zero value, and what drawing leaves in the work area.
-use mathlib.Core.Path.{_≡_, refl, sym, ap, ap₂, _∙_}
+use mathlib.Core.Path.{_≡_, sym, ap, ap₂, _∙_}
 use mathlib.Core.Logic.{_≢_}
-use mathlib.Core.Bool.{Bool, true, false, _||_, not}
-use mathlib.Core.List.{List, [], _∷_, _++_}
-use Prim.Native.Nat.{ℕ, zero, suc, _+_, _-_, _*_, _/_, _≤_, _<_}
+use mathlib.Core.Bool.{Bool, true, false, not}
+use mathlib.Core.List.{List}
+use Prim.Native.Nat.{ℕ, zero, _+_, _-_, _*_, _≤_, _<_}
 use native.Mathlib.Nat.{add-sub-cancel-left}
 use native.Mathlib.Numerals.{add-one}
 use native.Mathlib.Omega.{arith}
 use borrow.Author.Tests.{eq-eqb, ne-eqb}
 use lib.ListN.{length, getD, take, drop, length-take, length-drop, drop-of-length-le}
 use lib.Seq.{drop-cons, take-all, drop-drop, take-add, drop-at, take-take, length-take-le}
-use Rattle.lists.specs.Parts.{part, put, Wrote}
-use Rattle.lists.proofs.Parts.{part-length, put-length, put-same, put-before}
+use Rattle.lists.specs.Parts.{part, put}
+use Rattle.lists.proofs.Parts.{part-length, put-same, put-before}
 use Rattle.sets.specs.declared.Set.{Set}
 use Rattle.sets.specs.Valid.{Valid}
 use Rattle.perm.specs.Shuffle.{shuffled}
@@ -54,7 +54,7 @@ lent-few a n most w h = simp length-take (omega arith)
 pub front-long : (n : ℕ) (l : List ℕ) → n ≤ length l → length (part 0 (n - 0) l) ≡ n
 front-long n l h = part-length 0 (n - 0) l (omega arith) ∙ omega arith
 
-lent : (a n : ℕ) (l : List ℕ) → part a (a + n - a) l ≡ part a n l
+pub lent : (a n : ℕ) (l : List ℕ) → part a (a + n - a) l ≡ part a n l
 lent a n l = ap (λ (i : ℕ). part a i l) (add-sub-cancel-left a n)
 
 -- a part is a head and a tail

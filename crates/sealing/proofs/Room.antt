@@ -1,10 +1,10 @@
 -- The numbers of a valid set: what sealing lays into the work area, the key and the ciphertext has room there.
 use mathlib.Core.Path.{_≡_, sym, _∙_, ap}
-use Prim.Native.Nat.{ℕ, _+_, _-_, _*_, _/_, _≤_, _<_}
+use Prim.Native.Nat.{_+_, _-_, _*_, _≤_}
 use native.Mathlib.Nat.{mul-le-mul-left, mul-le-mul-right}
 use native.Mathlib.Omega.{arith}
 use Rattle.sets.specs.declared.Set.{Set}
-use Rattle.sets.specs.Valid.{Valid, keyElements}
+use Rattle.sets.specs.Valid.{Valid}
 use Rattle.bits.specs.Bits.{elementsIn}
 use Rattle.bits.proofs.Packing.{elementsIn-bytesFor}
 use Rattle.padding.proofs.Numbers.{few-bytes}

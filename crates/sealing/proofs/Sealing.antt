@@ -1,7 +1,7 @@
 -- Sealing: where the search found a block, its word is sent; where it found none, nothing is.
-use mathlib.Core.Path.{_≡_, refl, sym, ap, _∙_}
+use mathlib.Core.Path.{_≡_, _∙_}
 use mathlib.Core.List.{List}
-use Prim.Native.Nat.{ℕ, _+_, _*_, _/_, _<_}
+use Prim.Native.Nat.{ℕ, _+_, _*_, _/_}
 use lib.ListN.{length}
 use Rattle.lists.specs.Parts.{part}
 use Rattle.bits.specs.Bits.{packed}

@@ -1,5 +1,5 @@
 -- What is sent is the word that the work area holds after the rows and the values were added; its entries are elements.
-use mathlib.Core.Path.{_≡_, refl, sym, ap, ap₂, _∙_}
+use mathlib.Core.Path.{_≡_, sym, ap, ap₂, _∙_}
 use mathlib.Core.Bool.{Bool, true, false}
 use mathlib.Core.List.{List, [], _∷_}
 use Prim.Native.Nat.{ℕ, zero, suc, _+_, _-_, _*_, _^_, _≤_, _<_}
@@ -8,21 +8,20 @@ use native.Mathlib.Decide.{decLt}
 use borrow.Author.Tests.{lt-ltb, le-ltb}
 use lib.Dec.{eqb, ltb}
 use lib.Pow.{pow-pos}
-use lib.ListN.{length, getD, take, drop, length-take, List·getD-eq-default}
-use lib.Seq.{getD-take, getD-drop, ext-getD}
+use lib.ListN.{length, getD, take, length-take, List·getD-eq-default}
+use lib.Seq.{getD-take, ext-getD}
 use Rattle.lists.specs.Loops.{pick, tab}
 use Rattle.lists.specs.Parts.{part}
 use Rattle.lists.proofs.Tables.{length-tab, getD-tab, all-tab}
 use Rattle.lists.proofs.Parts.{part-length}
 use Rattle.lists.proofs.Writing.{part-same}
 use Rattle.gf.specs.Field.{Modulus, _⊕_, mul, size, width}
-use Rattle.gf.specs.Ten.{ten}
 use Rattle.gf.proofs.Xor.{add-lt}
 use Rattle.gf.proofs.Ring.{mul-lt}
 use Rattle.bits.specs.Bits.{elementsAt, bytesFor, Small}
 use Rattle.bits.proofs.Strings.{drop-small}
 use Rattle.sets.specs.declared.Set.{Set}
-use Rattle.sets.specs.Valid.{Valid, keyElements}
+use Rattle.sets.specs.Valid.{Valid}
 use Rattle.scheme.specs.Field.{fieldOf}
 use Rattle.scheme.specs.Keys.{publicGE}
 use Rattle.scheme.specs.Sealing.{combined, encoded, errorAt, sent}

@@ -1,31 +1,27 @@
 -- The word that is sent: row after row of GE times its element of the vector, and then the error values, each at its place.
 use mathlib.Core.Path.{_≡_, refl, sym, ap, ap₂, _∙_}
-use mathlib.Core.Logic.{_≢_, _⊎_, inl, inr}
-use mathlib.Core.Bool.{Bool, true, false}
-use mathlib.Core.List.{List, [], _∷_, _++_}
-use Prim.Native.Nat.{ℕ, zero, suc, _+_, _-_, _*_, _^_, _≤_, _<_}
-use native.Mathlib.Nat.{zero-add, add-sub-cancel-left, mul-add, add-mul, zero-mul, mul-zero, add-assoc, mul-le-mul, mul-le-mul-left, mul-le-mul-right}
+use mathlib.Core.Logic.{_≢_, inl, inr}
+use mathlib.Core.List.{List, [], _∷_}
+use Prim.Native.Nat.{ℕ, suc, _+_, _-_, _*_, _≤_, _<_}
+use native.Mathlib.Nat.{zero-add, add-sub-cancel-left, mul-add, add-mul, zero-mul, mul-zero, mul-le-mul, mul-le-mul-left, mul-le-mul-right}
 use native.Mathlib.Numerals.{add-one}
 use native.Mathlib.Omega.{arith}
-use native.Mathlib.Decide.{decLt, ℕ-discrete}
-use borrow.Author.Tests.{eq-eqb, ne-eqb, lt-ltb, le-ltb}
-use lib.ListN.{length, getD, set, take, drop, replicate, length-set, length-take, length-drop, length-replicate, getD-replicate, drop-of-length-le}
-use lib.Seq.{getD-set-same, getD-set-other, getD-take, getD-drop, drop-cons, ext-getD}
-use Rattle.lists.specs.Loops.{pick, tab}
+use borrow.Author.Tests.{eq-eqb, ne-eqb}
+use lib.ListN.{length, getD, set, drop, replicate, length-set, length-take, length-drop, length-replicate, getD-replicate, drop-of-length-le}
+use lib.Seq.{getD-set-same, getD-set-other, getD-take, getD-drop, drop-cons}
 use Rattle.lists.specs.Parts.{part, put, Wrote}
-use Rattle.lists.proofs.Tables.{length-tab, getD-tab, all-tab}
 use Rattle.lists.proofs.Parts.{part-length}
 use Rattle.lists.proofs.Writing.{wrote-more, wrote-lent, part-same}
-use Rattle.gf.specs.Field.{Modulus, _⊕_, mul, size, width}
+use Rattle.gf.specs.Field.{Modulus, _⊕_, mul, size}
 use Rattle.gf.specs.Ten.{ten}
 use Rattle.gf.specs.Runs.{addRun}
-use Rattle.gf.proofs.Xor.{add-assoc as xor-assoc, zero-right, add-lt}
-use Rattle.gf.proofs.Ring.{mul-lt}
+use Rattle.gf.proofs.Xor.{zero-right}
 use Rattle.gf.proofs.Runs.{add-length, add-off, add-at}
-use Rattle.bits.specs.Bits.{elementsAt, bitsAt, Small}
+use Rattle.bits.specs.Bits.{elementsAt, bitsAt}
 use Rattle.bits.proofs.Packing.{length-elementsAt, elementsAt-at}
-use Rattle.scheme.specs.Sealing.{combined, encoded, errorAt, sent}
-use Rattle.sealing.specs.Steps.{Room, Rising, Laid, Summed, Added, rowAdded}
+use Rattle.scheme.specs.Sealing.{combined, errorAt, sent}
+use Rattle.sealing.proofs.Selections.{at-or}
+use Rattle.sealing.specs.Steps.{Rising, Laid, Summed, Added, rowAdded}
 
 -- ---- the vector at the front, then zeros
 pub copied-more : (from n i : ℕ) (w₀ w : List ℕ) → Wrote 0 i (λ j. getD w₀ (from + j) 0) w₀ w → i < n → n ≤ from → from + n ≤ length w₀
@@ -203,13 +199,6 @@ added-none size t p q w =
     let past : length (part p t w) ≤ t = simp length-take (omega arith) in
     let none : drop t (part p t w) ≡ [] = drop-of-length-le (part p t w) past in
     record { long = refl; word = λ j h. rw none (sym (zero-right (getD w j 0))); rest = λ j h. refl }
-
-at-or : {A : Type 0} (i j : ℕ) → (i ≡ j → A) → (i ≢ j → A) → A
-at-or {A} i j f g = go (ℕ-discrete i j)
-  where
-    go : Dec (i ≡ j) → A
-    go (yes e) = f e
-    go (no d) = g d
 
 add-one-value : (size i : ℕ) (places values w₀ w : List ℕ) → i < length places → i < length values → Rising places → getD places i 0 < size → size ≤ length w₀
     → Added size places values (suc i) w₀ w → Added size places values i w₀ (set w (getD places i 0) (getD w (getD places i 0) 0 ⊕ getD values i 0))

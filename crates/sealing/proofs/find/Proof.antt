@@ -1,12 +1,12 @@
 use borrow.Author.Needs.{needs}
 use native.Mathlib.Nat.{div-le-self}
 use mathlib.Core.Path.{_≡_}
-use Prim.Native.Nat.{_≤_, _-_, _+_, _/_}
+use Prim.Native.Nat.{_≤_, _-_, _/_}
 use native.Mathlib.Omega.{arith}
 use lib.ListN.{length}
 use Rattle.lists.specs.Loops.{first}
 use Rattle.scheme.specs.Sealing.{blockAt, fits, firstFitting}
-use Rattle.sealing.proofs.Finding.{block-within, block-long, first-from, found-here, found-later, found-nowhere}
+use Rattle.sealing.proofs.Finding.{block-within, first-from, found-here, found-later, found-nowhere}
 use Rattle.sealing.proofs.find.Statement.{statement}
 use Rattle.sealing.proofs.find.Tie as tie
 
