@@ -14,7 +14,7 @@ use Rattle.lists.specs.Parts.{part, put, Wrote}
 use Rattle.lists.proofs.Tables.{length-tab}
 use Rattle.lists.proofs.Parts.{part-length}
 use Rattle.lists.proofs.Writing.{wrote-none, wrote-more, wrote-as, wrote-part, wrote-lent}
-use Rattle.gf.specs.Field.{Modulus, _⊕_, size, mul}
+use Rattle.gf.specs.Field.{Modulus, _⊕_, size, mul, width}
 use Rattle.gf.specs.Ten.{ten}
 use Rattle.gf.proofs.Ring.{mul-lt, mul-zero-left}
 use Rattle.gf.proofs.Xor.{add-lt}
@@ -112,7 +112,7 @@ module _ (s : Set) (random l l′ : List ℕ) (same : (p : ℕ) → matrixSize s
 
 -- ---- an element of the field
 mixed-lt : (s : Set) (random l : List ℕ) (i e : ℕ) → mixedIn s random l i e < size ten
-mixed-lt s random l i e = add-lt 10 _ _ (mul-lt ten _ _) (mul-lt ten _ _)
+mixed-lt s random l i e = add-lt (width ten) _ _ (mul-lt ten _ _) (mul-lt ten _ _)
 
 pub entry-lt : (s : Set) (random l : List ℕ) (i j : ℕ) → entryIn s random l i j < size ten
 entry-lt s random l i j = go (ltb (getD l (secondAt s + j) 0) (s .n - s .w))

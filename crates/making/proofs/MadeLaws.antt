@@ -21,6 +21,8 @@ use Rattle.bits.proofs.Packing.{elements-small, length-packed}
 use Rattle.perm.specs.Perm.{Inverse, Perm}
 use Rattle.perm.proofs.Permutations.{inverse-perm, entries-low}
 use Rattle.perm.proofs.Inverting.{inverted-inverse}
+use Rattle.gf.specs.Field.{width}
+use Rattle.gf.specs.Ten.{ten}
 use Rattle.sets.specs.declared.Set.{Set}
 use Rattle.sets.specs.Valid.{keyElements}
 use Rattle.linear.specs.Elimination.{Done, eliminated}
@@ -184,7 +186,7 @@ module _ (s : Set) (random public private : List ℕ) (count : ℕ) (room : Room
   made-nonzero i h =
       let long : length (multipliers s random) ≡ s .n = multipliers-length s random (v .enough) in
       let d : getD (multipliers s random) i 0 ≢ 0 = multipliers-nonzero s random (v .enough) i h in
-      let b : Small 10 (multipliers s random) = small-as (s .m) 10 (multipliers s random) (room .bits) (multipliers-small s random) in
+      let b : Small (width ten) (multipliers s random) = small-as (s .m) (width ten) (multipliers s random) (room .bits) (multipliers-small s random) in
       let pos : 0 < getD (multipliers s random) i 0 = lt-of-le-ne (omega arith) (λ e. d (sym e)) in
       rw (inverses-at ten (multipliers s random) i (omega arith))
       (λ e. omega (arith, inverse-pos ten-field (getD (multipliers s random) i 0) pos (b i)))
@@ -203,8 +205,8 @@ module _ (s : Set) (random public private : List ℕ) (count : ℕ) (room : Room
         long-ge = length-right s (endWith s random (v .A) (v .p) .mat);
         small-q1 = perm-small (inverseOf (permutation1 s random)) (inverse-perm (permutation1 s random) _ made-first) (omega (arith, length-inverse (permutation1 s random), length-first s random, room .places));
         small-q2 = perm-small (inverseOf (permutation2 s random (v .p))) (inverse-perm (permutation2 s random (v .p)) _ made-second) (omega (arith, length-inverse (permutation2 s random (v .p)), length-second s random (v .p), room .places));
-        small = append-small (s .m) (inverseColumns ten (v .A)) _ (small-as 10 (s .m) (inverseColumns ten (v .A)) (sym (room .bits)) (columns-small (v .A)))
-            (append-small (s .m) (inverses ten (multipliers s random)) _ (small-as 10 (s .m) (inverses ten (multipliers s random)) (sym (room .bits)) (inverses-small (multipliers s random))) ge-small);
+        small = append-small (s .m) (inverseColumns ten (v .A)) _ (small-as (width ten) (s .m) (inverseColumns ten (v .A)) (sym (room .bits)) (columns-small (v .A)))
+            (append-small (s .m) (inverses ten (multipliers s random)) _ (small-as (width ten) (s .m) (inverses ten (multipliers s random)) (sym (room .bits)) (inverses-small (multipliers s random))) ge-small);
       }
 
   -- both keys read back

@@ -2,7 +2,7 @@
 use mathlib.Core.Path.{_≡_, sym, ap, _∙_}
 use mathlib.Core.Bool.{Bool, true, false, not}
 use mathlib.Core.List.{List}
-use Prim.Native.Nat.{ℕ, _+_, _-_, _*_, _/_, _%_, _^_, _≤_, _<_}
+use Prim.Native.Nat.{ℕ, _+_, _-_, _*_, _/_, _%_, _≤_, _<_}
 use native.Mathlib.Nat.{mod-lt, div-lt-iff-lt-mul, zero-add}
 use native.Mathlib.Omega.{arith}
 use native.Mathlib.Decide.{decLt}
@@ -15,7 +15,7 @@ use Rattle.lists.specs.Loops.{pick}
 use Rattle.lists.specs.Parts.{part}
 use Rattle.lists.proofs.Tables.{getD-tab, tab-ext}
 use Rattle.lists.proofs.Writing.{part-same}
-use Rattle.gf.specs.Field.{_⊕_, mul, size}
+use Rattle.gf.specs.Field.{_⊕_, mul, size, width}
 use Rattle.gf.specs.Ten.{ten}
 use Rattle.gf.proofs.Ring.{mul-lt}
 use Rattle.gf.proofs.Xor.{add-lt}
@@ -28,7 +28,6 @@ use Rattle.linear.specs.Elimination.{Done, eliminated}
 use Rattle.linear.proofs.Laws.{tab-matrix, end-matrix}
 use Rattle.scheme.specs.declared.Answer.the-variants.{FewMultipliers, FewElements, NoWindow, Dependent}
 use Rattle.scheme.specs.Matrices.{listed, scaleColumns, permuteColumns, joinColumns, multiplyPairs}
-use Rattle.scheme.specs.Keys.{publicKey}
 use Rattle.scheme.specs.Setup.{usable, multipliers, blockElements, found, none, blocks, permutation1, permutation2, window, chain, rightPart, made, fails, reducedPair, withBlocks, setup}
 use Rattle.making.specs.Area.{Room, matrixSize, multipliersAt, blocksAt, firstAt, secondAt, generatorAt, Holds}
 use Rattle.making.specs.Keys.{PermsIn}
@@ -127,7 +126,7 @@ chain-lt s random A P2 i j = go (ltb (getD P2 j 0) (s .n - s .w)) _ _ _ _ _ _ _
   where
     go : (t : Bool) (a b c d e f x : ℕ) → pick t (pick t (mul ten a b) x) (mul ten c d ⊕ mul ten e f) < size ten
     go true a b c d e f x = mul-lt ten a b
-    go false a b c d e f x = add-lt 10 (mul ten c d) (mul ten e f) (mul-lt ten c d) (mul-lt ten e f)
+    go false a b c d e f x = add-lt (width ten) (mul ten c d) (mul ten e f) (mul-lt ten c d) (mul-lt ten e f)
 
 module _ (s : Set) (random A P2 : List ℕ) (room : Room s) where
   abbrev end : Done
@@ -142,9 +141,9 @@ module _ (s : Set) (random A P2 : List ℕ) (room : Room s) where
 
   pub reduced-small : Small (s .m) (rightPart s (end .mat))
   unfolding rightPart listed
-  reduced-small = small-as 10 (s .m) (rightPart s (end .mat)) (sym (room .bits)) (λ i. go i (decLt i (keyElements s)))
+  reduced-small = small-as (width ten) (s .m) (rightPart s (end .mat)) (sym (room .bits)) (λ i. go i (decLt i (keyElements s)))
     where
-      go : (i : ℕ) → Dec (i < keyElements s) → getD (rightPart s (end .mat)) i 0 < 2 ^ 10
+      go : (i : ℕ) → Dec (i < keyElements s) → getD (rightPart s (end .mat)) i 0 < size ten
       go i (yes h) =
           let some : 0 < s .n + s .w - s .k = omega (arith, room .code) in
           rw (getD-tab (keyElements s) _ i h)

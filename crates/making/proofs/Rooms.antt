@@ -3,6 +3,8 @@ use mathlib.Core.Path.{_≡_, _∙_}
 use Prim.Native.Nat.{_+_, _-_, _*_, _≤_}
 use native.Mathlib.Nat.{mul-le-mul-left, mul-le-mul-right, mul-assoc, add-mul}
 use native.Mathlib.Omega.{arith}
+use Rattle.gf.specs.Field.{width}
+use Rattle.gf.specs.Ten.{ten}
 use Rattle.sets.specs.declared.Set.{Set}
 use Rattle.sets.specs.Valid.{Valid, setupElements, keyElements}
 use Rattle.making.specs.Area.{Room, matrixSize}
@@ -28,7 +30,7 @@ module _ (s : Set) (v : Valid s) where
   drawn : setupElements s ≤ s .n + 4 * s .w + matrixSize s + 25
   drawn = omega (arith, add-mul 4 (s .k) (s .w), mul-le-mul-left {m = s .w} {n = s .n + s .w} (s .k) (omega arith))
 
-  pub room : s .m ≡ 10 → Room s
+  pub room : s .m ≡ width ten → Room s
   room m =
       record {
         some-k = v .some-k;

@@ -21,6 +21,8 @@ use Rattle.perm.specs.Perm.{Perm}
 use Rattle.perm.specs.Shuffle.{shuffled}
 use Rattle.perm.proofs.Permutations.{entries-low}
 use Rattle.perm.proofs.Shuffling.{length-shuffled, shuffled-perm}
+use Rattle.gf.specs.Field.{width}
+use Rattle.gf.specs.Ten.{ten}
 use Rattle.sets.specs.declared.Set.{Set}
 use Rattle.sets.specs.Valid.{keyElements}
 use Rattle.code.specs.Generator.{generator}
@@ -188,7 +190,7 @@ append-small w a b f g i = go (decLt i (length a))
 pub small-as : (m n : ℕ) (x : List ℕ) → m ≡ n → Small m x → Small n x
 small-as m n x e h i = rw (← e) (h i)
 
-pub columns-small : (A : List ℕ) → Small 10 (inverseColumns ten A)
+pub columns-small : (A : List ℕ) → Small (width ten) (inverseColumns ten A)
 unfolding inverseColumns
 columns-small [] i = omega arith
 columns-small (a ∷ []) i = omega arith
@@ -198,7 +200,7 @@ columns-small (a ∷ b ∷ c ∷ d ∷ l) zero = mul-lt ten _ _
 columns-small (a ∷ b ∷ c ∷ d ∷ l) (suc zero) = mul-lt ten _ _
 columns-small (a ∷ b ∷ c ∷ d ∷ l) (suc (suc i)) = columns-small l i
 
-pub inverses-small : (l : List ℕ) → Small 10 (inverses ten l)
+pub inverses-small : (l : List ℕ) → Small (width ten) (inverses ten l)
 unfolding inverses
 inverses-small [] i = omega arith
 inverses-small (x ∷ l) zero = inverse-lt ten x
@@ -250,11 +252,11 @@ module _ (s : Set) (l l₁ : List ℕ) (room : Room s) (lw : length l ≡ s .wor
 
   pub run-small : Small (s .m) (part (runAt s) (runSize s) l₁)
   run-small =
-      let bits : Small 10 (rightPart s l) = small-as (s .m) 10 (rightPart s l) (room .bits) small in
+      let bits : Small (width ten) (rightPart s l) = small-as (s .m) (width ten) (rightPart s l) (room .bits) small in
       rw run-now
-      (small-as 10 (s .m) (runIn s l) (sym (room .bits))
-      (append-small 10 (columnsIn s l) (inversesIn s l ++ rightPart s l) (columns-small (part (blocksAt s) (4 * s .w) l))
-      (append-small 10 (inversesIn s l) (rightPart s l) (inverses-small (part (multipliersAt s) (s .n) l)) bits)))
+      (small-as (width ten) (s .m) (runIn s l) (sym (room .bits))
+      (append-small (width ten) (columnsIn s l) (inversesIn s l ++ rightPart s l) (columns-small (part (blocksAt s) (4 * s .w) l))
+      (append-small (width ten) (inversesIn s l) (rightPart s l) (inverses-small (part (multipliersAt s) (s .n) l)) bits)))
 
   pub perms-now : PermsIn s l₁
   perms-now =

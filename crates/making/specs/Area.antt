@@ -4,6 +4,8 @@ use mathlib.Core.List.{List}
 use Prim.Native.Nat.{ℕ, _+_, _-_, _*_, _^_, _≤_, _<_}
 use lib.ListN.{getD}
 use Rattle.lists.specs.Parts.{Wrote}
+use Rattle.gf.specs.Field.{width}
+use Rattle.gf.specs.Ten.{ten}
 use Rattle.sets.specs.declared.Set.{Set}
 use Rattle.bits.specs.Bits.{bytesFor}
 use Rattle.sets.specs.Valid.{setupElements, keyElements}
@@ -48,7 +50,7 @@ pub record Room (s : Set) : Type 0 where
   pub some-w : 0 < s .w
   pub code : s .k + 2 ≤ s .n
   pub unmixed : s .k + s .w ≤ s .n
-  pub bits : s .m ≡ 10
+  pub bits : s .m ≡ width ten
   pub places : s .n + s .w ≤ 65536
   pub run : geAt s + keyElements s ≤ s .work
   pub search : runAt s + (4 * s .w + 20) ≤ s .work

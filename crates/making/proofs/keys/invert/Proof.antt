@@ -32,7 +32,9 @@ cast-x c =
     let a = c3 .args in omega (arith, invert-low (a .from) (a .u) (c .before .before .loop .i) (a .work .now) (c .before .before .loop .work) (c3 .pre .3) (c3 .pre .0) (c3 .pre .1) (c .before .before .loop .inv .1) (c .before .loop-test .taken))
 
 cast-work : tie.Need-cast-work Inv-loop μ-loop
-cast-work c = search needs
+cast-work c =
+    let c3 = c .before .before .before in
+    let a = c3 .args in omega (arith, invert-low (a .from) (a .u) (c .before .before .loop .i) (a .work .now) (c .before .before .loop .work) (c3 .pre .3) (c3 .pre .0) (c3 .pre .1) (c .before .before .loop .inv .1) (c .before .loop-test .taken))
 
 mul-work : tie.Need-mul-work Inv-loop μ-loop
 mul-work c =

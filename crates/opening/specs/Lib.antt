@@ -1,0 +1,5 @@
+-- What the contracts of opening are written in.
+pub mod Reading
+pub mod Given
+pub mod Area
+pub mod Stages
