@@ -26,7 +26,7 @@ use Rattle.scheme.specs.Lists.{inverseOf}
 use Rattle.scheme.specs.Keys.{Private}
 use Rattle.scheme.specs.Sealing.{combined, encoded}
 use Rattle.scheme.specs.Opening.{kept, undone, redone}
-use Rattle.opening.proofs.Choices.{pick-lt}
+use Rattle.tie.proofs.Choices.{pick-lt}
 
 -- the field of every set
 abbrev pub K : Field

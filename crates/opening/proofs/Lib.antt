@@ -5,8 +5,6 @@ pub mod Reading
 pub mod Undoing
 pub mod Lending
 pub mod KeyLaws
-pub mod Choices
-pub mod Passing
 pub mod Bridge
 pub mod Splitting
 pub mod Parting

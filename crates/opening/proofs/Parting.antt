@@ -28,7 +28,7 @@ use Rattle.opening.specs.Stages.{Collected, Orders, Keyed, Parted}
 use Rattle.opening.proofs.Reading.{length-first, length-second}
 use Rattle.opening.proofs.KeyLaws.{inverse-of}
 use Rattle.opening.proofs.Collecting.{length-passing}
-use Rattle.opening.proofs.Passing.{passing-ext}
+use Rattle.tie.proofs.Passing.{passing-ext}
 use Rattle.opening.proofs.Bridge.{K, E, word, sizes, keyOf}
 use Rattle.opening.proofs.Splitting.{spare, enough-T}
 

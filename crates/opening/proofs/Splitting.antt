@@ -18,8 +18,8 @@ use Rattle.sets.specs.Valid.{Valid}
 use Rattle.scheme.specs.Lists.{inverseOf, passing}
 use Rattle.scheme.specs.Keys.{Private}
 use Rattle.scheme.specs.Opening.{placed, unmixed, placesI, placesT, Vector}
-use Rattle.opening.proofs.Choices.{lt-true, lt-false, true-lt}
-use Rattle.opening.proofs.Passing.{passing-listed}
+use Rattle.tie.proofs.Choices.{lt-true, lt-false, true-lt}
+use Rattle.tie.proofs.Passing.{passing-listed}
 use Rattle.opening.proofs.Bridge.{K, E, word, sizes, keyOf, redone-el, encoded-el}
 
 module _ (s : Set) (ok : Valid s) (κ : Private) where

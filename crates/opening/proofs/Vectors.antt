@@ -39,7 +39,7 @@ use Rattle.pairs.proofs.Solve.{inverse-solves}
 use Rattle.pairs.proofs.Opening.{vector-solved}
 use Rattle.opening.specs.Area.{matrixAt, decodingAt, codeAt, vectorAt, rightAt, tailAt, solvedAt}
 use Rattle.opening.specs.Stages.{Same, Working, codeIn, knownOf, rowSum, KnownWord, MixedPart, sideOf, solutionOf, vectorIn, Found}
-use Rattle.opening.proofs.Choices.{pick-lt, true-lt}
+use Rattle.tie.proofs.Choices.{pick-lt, true-lt}
 use Rattle.opening.proofs.RowSums.{rowSum-ext}
 use Rattle.opening.proofs.Bridge.{K, E, word, sizes, keyOf, redone-el, encoded-el}
 use Rattle.opening.proofs.Splitting.{yes-unmixed, unmixed-yes, length-T}
