@@ -22,6 +22,7 @@ use Rattle.scheme.specs.Opening.{Opens}
 use Rattle.scheme.specs.Calls.{zeroed, SealEnd, sealLengths, afterSeal, sealOf, sealEnds, openLengths, OpenCase, OpenChecked, OpenOf, OpenEnds}
 use Rattle.demands.specs.Demands.{Sealed, GoodPair, Answered, opened, refused, OpenAnswers, SealOpens}
 use Rattle.tie.proofs.Choices.{lt-true}
+use Rattle.demands.proofs.Choosing.{first-there}
 use Rattle.demands.proofs.Finding.{at-most-one}
 use Rattle.demands.proofs.Promised.{promised}
 use Rattle.demands.proofs.Setup.{setup-pairs}
@@ -38,17 +39,6 @@ first-of false b e = e
 pub second-of : (a b : Bool) → a && b ≡ true → b ≡ true
 second-of true b e = e
 second-of false b e = absurd (false≢true e)
-
--- a search that ends before its end has found
-first-holds : (p : ℕ → Bool) (n i : ℕ) → first p n i < i + n → p (first p n i) ≡ true
-unfolding first
-first-holds p zero i h = absurd (omega arith)
-first-holds p (suc n) i h = go (p i) refl h (first-holds p n (suc i))
-  where
-    go : (b : Bool) → p i ≡ b → pick b i (first p n (suc i)) < i + suc n → (first p n (suc i) < suc i + n → p (first p n (suc i)) ≡ true)
-        → p (pick b i (first p n (suc i))) ≡ true
-    go true e h ih = e
-    go false e h ih = ih (omega arith)
 
 -- ---- opening
 module _ (s : Set) (ok : Valid s) (e : width (fieldOf s) ≡ s .m) (named : setOf (s .byte) ≡ Known s) (public private : List ℕ) (G : GoodPair s public private) where
@@ -104,7 +94,7 @@ module _ (s : Set) (ok : Valid s) (named : setOf (s .byte) ≡ Known s) (public 
         where
           found : firstFitting s msg random < length random / s .block → fits s msg (blockAt s random (firstFitting s msg random)) ≡ true
           found h =
-              unfold firstFitting in first-holds (λ b. fits s msg (blockAt s random b)) (length random / s .block) 0 (let e : 0 + length random / s .block ≡ length random / s .block = omega arith in rw e h)
+              unfold firstFitting in first-there (λ b. fits s msg (blockAt s random b)) (length random / s .block) 0 (let e : 0 + length random / s .block ≡ length random / s .block = omega arith in rw e h)
       go false q a = absurd (let z : _≡_ {A = ℕ} 0 1 = cc in omega arith)
 
   of-known : Gives (sealOf (Known s) public random msg cipher work)

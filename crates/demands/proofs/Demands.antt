@@ -1,10 +1,10 @@
 -- All that is promised of key pairs, of every valid set whose elements are the field's; and so of every set of the table.
-use mathlib.Core.Path.{_≡_, ap, _∙_}
+use mathlib.Core.Path.{_≡_, refl, ap, _∙_}
 use Prim.Native.Nat.{ℕ}
 use Rattle.gf.specs.Field.{width}
 use Rattle.sets.specs.declared.Set.{Set}
 use Rattle.sets.specs.declared.Named.the-variants.{Known}
-use Rattle.sets.specs.Table.{setOf}
+use Rattle.sets.specs.Table.{setOf, set6, set1}
 use Rattle.sets.specs.Valid.{Valid}
 use Rattle.sets.proofs.Valid.{Fit, known}
 use Rattle.scheme.specs.Field.{fieldOf}
@@ -15,6 +15,7 @@ use Rattle.demands.proofs.Setup.{setup-pairs}
 use Rattle.demands.proofs.Promised.{good-promised}
 use Rattle.demands.proofs.Calls.{open-all, seal-opens}
 use Rattle.demands.proofs.Wrapping.{wrap-opens}
+use Rattle.demands.proofs.Choosing.{seal-chooses, wrap-chooses}
 
 pub demands : (s : Set) → Valid s → width (fieldOf s) ≡ s .m → setOf (s .byte) ≡ Known s → Demands s
 demands s ok e named =
@@ -26,6 +27,8 @@ demands s ok e named =
       open-answers = open-all s ok e named;
       seal-opens = seal-opens s ok e named;
       wrap-opens = wrap-opens s ok e named;
+      seal-chooses = seal-chooses s named;
+      wrap-chooses = wrap-chooses s named;
     }
 
 -- THEOREM. All of it, of every set that a set byte names.
@@ -33,3 +36,11 @@ pub known-demands : (byte : ℕ) (s : Set) → setOf byte ≡ Known s → Demand
 known-demands byte s e =
     let f : Fit byte s = known byte s e in
     demands s (f .valid) (known-width byte s e) (ap setOf (f .names) ∙ e)
+
+pub demands-6 : Demands set6
+unfolding setOf
+demands-6 = known-demands 0x16 set6 refl
+
+pub demands-1 : Demands set1
+unfolding setOf
+demands-1 = known-demands 0x11 set1 refl

@@ -6,8 +6,9 @@
 --   Setup      setup-pairs (every pair of setup is good)
 --   Blocks     block-triple, sealed (what sealing gives is the ciphertext of a triple)
 --   Calls      open-all, seal-opens;  Wrapping  wrap-opens
+--   Choosing   seal-chooses, wrap-chooses (a block is passed over exactly if it has a zero error value)
 --   Settled    open-once, unwrap-once (what opening promises leaves one answer, for all inputs)
---   Demands    known-demands (all of it, of every set of the table)
+--   Demands    known-demands (all of it, of every set of the table); demands-6, demands-1
 -- opening, of any key
 mod Sound
 mod Reading
@@ -29,6 +30,7 @@ mod Made
 mod Matrices
 pub mod Setup
 -- the calls
+pub mod Choosing
 pub mod Blocks
 pub mod Calls
 pub mod Wrapping

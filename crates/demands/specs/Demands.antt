@@ -1,9 +1,9 @@
 -- Demand 3 (01, What a contract has to decide here; 02, ticket 10): what is promised of key pairs, over the definitions of the scheme.
 -- All is about byte strings: keys, messages, ciphertexts.
 use mathlib.Core.Path.{_≡_}
-use mathlib.Core.Bool.{false}
+use mathlib.Core.Bool.{true, false}
 use mathlib.Core.List.{List}
-use Prim.Native.Nat.{ℕ, _+_, _-_, _*_, _<_}
+use Prim.Native.Nat.{ℕ, _+_, _-_, _*_, _/_, _<_}
 use lib.Dec.{eqb, ltb}
 use lib.ListN.{length, getD}
 use Rattle.lists.specs.Loops.{pick, tab}
@@ -15,10 +15,10 @@ use Rattle.scheme.specs.Field.{fieldOf}
 use Rattle.scheme.specs.Padding.{lostBits, cleared}
 use Rattle.scheme.specs.Keys.{WellFormed, publicGE, read}
 use Rattle.scheme.specs.Setup.{made, setup}
-use Rattle.scheme.specs.Sealing.{errorValues, ciphertext}
+use Rattle.scheme.specs.Sealing.{errorValues, ciphertext, blockAt, blockSeed, blockPlaces, secretMessage}
 use Rattle.scheme.specs.Opening.{undone, Singular, Opens}
 use Rattle.scheme.specs.declared.Answer.{Answer}
-use Rattle.scheme.specs.declared.Answer.the-variants.{Done, NotOpened}
+use Rattle.scheme.specs.declared.Answer.the-variants.{Done, UnknownSet, WrongLength, FewMultipliers, FewElements, NoWindow, Dependent, Malformed, Singular as Singular8, ZeroValues, NotOpened, WrongSecret}
 use Rattle.scheme.specs.Calls.{zeroed, sealEnds, wrapEnds, OpenEnds, UnwrapEnds}
 
 -- ---- what is sealed
@@ -136,6 +136,41 @@ WrapOpens s =
     → UnwrapEnds private (wrapEnds public random secret cipher work .cipher) out work₁ answer out′ work′
     → (answer ≡ Done 0) × (out′ ≡ secret)
 
+-- ---- sealing's choice of a block (01: "A block with any zero error value is passed over")
+
+-- random block b has an error value that is zero, for this message
+abbrev pub HasZero : Set → List ℕ → List ℕ → ℕ → Type 0
+HasZero s msg random b =
+    let block = blockAt s random b in
+    has (errorValues s msg (blockSeed s block) (blockPlaces s block)) 0 ≡ true
+
+-- what an answer tells of the blocks: block b is used, it has no zero value, and every block before it has one; or (9) all of them have one
+abbrev pub Chosen : Set → List ℕ → List ℕ → Answer → Type 0
+Chosen s msg random (Done b) =
+    (b < length random / s .block) × (HasZero s msg random b → ⊥) × ((i : ℕ) → i < b → HasZero s msg random i)
+Chosen s msg random ZeroValues = (i : ℕ) → i < length random / s .block → HasZero s msg random i
+Chosen s msg random UnknownSet = Unit
+Chosen s msg random WrongLength = Unit
+Chosen s msg random WrongSecret = Unit
+Chosen s msg random FewMultipliers = ⊥
+Chosen s msg random FewElements = ⊥
+Chosen s msg random NoWindow = ⊥
+Chosen s msg random Dependent = ⊥
+Chosen s msg random Malformed = ⊥
+Chosen s msg random Singular8 = ⊥
+Chosen s msg random NotOpened = ⊥
+
+-- so a block is passed over exactly if one of its error values is zero, and 9 is answered exactly if every block is passed over
+abbrev pub SealChooses : Set → Type 0
+SealChooses s =
+    (key random msg cipher work : List ℕ) → getD key 0 0 ≡ s .byte
+    → Chosen s msg random (sealEnds key random msg cipher work .answer)
+
+abbrev pub WrapChooses : Set → Type 0
+WrapChooses s =
+    (key random secret cipher work : List ℕ) → getD key 0 0 ≡ s .byte
+    → Chosen s (secretMessage s secret) random (wrapEnds key random secret cipher work .answer)
+
 -- 01: "if two answers both satisfy it, they are shown equal". What opening and unwrapping promise leaves one answer and one content of
 -- each buffer, for all inputs
 abbrev pub OpenOnce : Type 0
@@ -159,3 +194,5 @@ pub record Demands (s : Set) : Type 0 where
   pub open-answers : OpenAnswers s
   pub seal-opens : SealOpens s
   pub wrap-opens : WrapOpens s
+  pub seal-chooses : SealChooses s
+  pub wrap-chooses : WrapChooses s
