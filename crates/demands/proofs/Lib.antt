@@ -9,6 +9,7 @@
 --   Choosing   seal-chooses, wrap-chooses (a block is passed over exactly if it has a zero error value)
 --   Settled    open-once, unwrap-once (what opening promises leaves one answer, for all inputs)
 --   Demands    known-demands (all of it, of every set of the table); demands-6, demands-1
+--   Arriving   sealed-arrives, wrapped-arrives, strings-answered (through setup, sealing and opening, for every set byte)
 -- opening, of any key
 mod Sound
 mod Reading
@@ -37,3 +38,4 @@ pub mod Wrapping
 pub mod Known
 pub mod Settled
 pub mod Demands
+pub mod Arriving

@@ -9,6 +9,8 @@ use lib.ListN.{length, getD}
 use Rattle.lists.specs.Loops.{pick, tab}
 use Rattle.bits.specs.Bits.{Small}
 use Rattle.sets.specs.declared.Set.{Set}
+use Rattle.sets.specs.declared.Named.the-variants.{Known}
+use Rattle.sets.specs.Table.{setOf}
 use Rattle.code.specs.Words.{CodeWord}
 use Rattle.scheme.specs.Lists.{has}
 use Rattle.scheme.specs.Field.{fieldOf}
@@ -19,7 +21,7 @@ use Rattle.scheme.specs.Sealing.{errorValues, ciphertext, blockAt, blockSeed, b
 use Rattle.scheme.specs.Opening.{undone, Singular, Opens}
 use Rattle.scheme.specs.declared.Answer.{Answer}
 use Rattle.scheme.specs.declared.Answer.the-variants.{Done, UnknownSet, WrongLength, FewMultipliers, FewElements, NoWindow, Dependent, Malformed, Singular as Singular8, ZeroValues, NotOpened, WrongSecret}
-use Rattle.scheme.specs.Calls.{zeroed, sealEnds, wrapEnds, OpenEnds, UnwrapEnds}
+use Rattle.scheme.specs.Calls.{zeroed, setupEnds, sealEnds, wrapEnds, OpenEnds, UnwrapEnds}
 
 -- ---- what is sealed
 
@@ -184,6 +186,46 @@ UnwrapOnce =
     (key cipher out work : List ℕ) (a a′ : Answer) (out₁ out₂ work₁ work₂ : List ℕ)
     → UnwrapEnds key cipher out work a out₁ work₁ → UnwrapEnds key cipher out work a′ out₂ work₂
     → (a ≡ a′) × (out₁ ≡ out₂) × (work₁ ≡ work₂)
+
+-- ---- the way of a message through the calls, whatever the set byte and whatever was lent
+
+-- whatever setup wrote with answer 0: whatever sealing wrote under its public key with answer 0, opening with its private key answers 0 and
+-- writes the message that was sealed
+abbrev pub SealedArrives : Type 0
+SealedArrives =
+    (byte : ℕ) (first public private work : List ℕ) (count : ℕ) → Small 8 first
+    → let made = setupEnds byte first public private work in
+    made .answer ≡ Done count
+    → (random msg cipher work₁ : List ℕ) (b : ℕ) → Small 8 random → Small 8 msg
+    → let sealed = sealEnds (made .public) random msg cipher work₁ in
+    sealed .answer ≡ Done b
+    → (out work₂ out′ work′ : List ℕ) (answer : Answer) → length out ≡ length msg → length work₂ ≡ length work
+    → OpenEnds (made .private) (sealed .cipher) out work₂ answer out′ work′
+    → (answer ≡ Done 0) × (out′ ≡ msg)
+
+-- and the KEM pair likewise, for secrets of every allowed length
+abbrev pub WrappedArrives : Type 0
+WrappedArrives =
+    (byte : ℕ) (first public private work : List ℕ) (count : ℕ) → Small 8 first
+    → let made = setupEnds byte first public private work in
+    made .answer ≡ Done count
+    → (random secret cipher work₁ : List ℕ) (b : ℕ) → Small 8 random → Small 8 secret
+    → let wrapped = wrapEnds (made .public) random secret cipher work₁ in
+    wrapped .answer ≡ Done b
+    → (out work₂ out′ work′ : List ℕ) (answer : Answer) → length out ≡ length secret → length work₂ ≡ length work
+    → UnwrapEnds (made .private) (wrapped .cipher) out work₂ answer out′ work′
+    → (answer ≡ Done 0) × (out′ ≡ secret)
+
+-- and every string of the ciphertext's length is answered: by the message of the triple whose ciphertext it is, or by 10
+abbrev pub StringsAnswered : Type 0
+StringsAnswered =
+    (byte : ℕ) (s : Set) → setOf byte ≡ Known s
+    → (first public private work : List ℕ) (count : ℕ) → Small 8 first
+    → let made = setupEnds byte first public private work in
+    made .answer ≡ Done count
+    → (cipher out work₁ out′ work′ : List ℕ) (answer : Answer)
+    → length cipher ≡ s .cipher → Small 8 cipher → length out ≡ s .k1 → length work₁ ≡ s .work
+    → OpenEnds (made .private) cipher out work₁ answer out′ work′ → Answered s (made .public) cipher out answer out′
 
 -- ---- all of it
 pub record Demands (s : Set) : Type 0 where
