@@ -14,50 +14,14 @@ use Rattle.sets.specs.declared.Named.{Named}
 use Rattle.sets.specs.declared.Named.the-variants.{Known, Unknown}
 use Rattle.sets.specs.Table.{setOf}
 use Rattle.scheme.specs.declared.Answer.{Answer}
-use Rattle.scheme.specs.declared.Answer.the-variants.{Done, UnknownSet, WrongLength, FewMultipliers, FewElements, NoWindow, Dependent}
-use Rattle.scheme.specs.Setup.{Made, made, fails, Found, found, none, usable, blocks, blockElements, window, reducedPair, withBlocks, setup}
-use Rattle.scheme.specs.Field.{fieldOf}
-use Rattle.scheme.specs.Keys.{publicKey, privateKey}
+use Rattle.scheme.specs.declared.Answer.the-variants.{Done, WrongLength}
+use Rattle.scheme.specs.Setup.{Made, made, fails, setup}
 use Rattle.sets.proofs.Valid.{known}
 use Rattle.scheme.specs.Calls.{SetupEnd, setupLengths, afterSetup, setupOf, setupEnds, SealEnd, sealLengths, afterSeal, sealOf, sealEnds}
 use Rattle.demands.specs.Demands.{Ours, Demands, GoodPair, SealedArrives, WrappedArrives, Answered, StringsAnswered}
-use Rattle.demands.proofs.Made.{endOf, geOf, keyMade}
+use Rattle.demands.proofs.Ending.{Refuses, setup-refuses}
 use Rattle.demands.proofs.Calls.{first-of, second-of}
 use Rattle.demands.proofs.Demands.{known-demands}
-
--- ---- setup's refusals are refusals
-
-abbrev NotDone : Made → Type 0
-NotDone r = (c : ℕ) → r ≡ fails (Done c) → ⊥
-
-not-made : (p q : List ℕ) (n : ℕ) → NotDone (made p q n)
-not-made p q n c e = let z : _≡_ {A = ℕ} 0 1 = cc in omega arith
-
-module _ (s : Set) (random : List ℕ) where
-  reduced-not : (A : List ℕ) (p : ℕ) → NotDone (reducedPair s random A p)
-  unfolding reducedPair
-  reduced-not A p = go (ltb (endOf s random A p .cols) (s .k)) (publicKey s (geOf s random A p)) (privateKey s (keyMade s random A p)) (p + 1)
-    where
-      go : (b : Bool) (x y : List ℕ) (n : ℕ) → NotDone (pick b (fails Dependent) (made x y n))
-      go true x y n c e = let z : _≡_ {A = ℕ} 0 1 = cc in omega arith
-      go false x y n c e = not-made x y n c e
-
-  blocks-not : (f : Found) → NotDone (withBlocks s random f)
-  unfolding withBlocks
-  blocks-not none c e = let z : _≡_ {A = ℕ} 0 1 = cc in omega arith
-  blocks-not (found A) c e = go (ltb (window s random) 5) c e
-    where
-      go : (b : Bool) → NotDone (pick b (reducedPair s random A (window s random)) (fails NoWindow))
-      go true c e = reduced-not A (window s random) c e
-      go false c e = let z : _≡_ {A = ℕ} 0 1 = cc in omega arith
-
-  setup-not : NotDone (setup s random)
-  unfolding setup
-  setup-not c e = go (ltb (length (usable s random)) (s .n)) c e
-    where
-      go : (b : Bool) → NotDone (pick b (fails FewMultipliers) (withBlocks s random (blocks (fieldOf s) (s .w) (blockElements s random))))
-      go true c e = let z : _≡_ {A = ℕ} 0 1 = cc in omega arith
-      go false c e = blocks-not (blocks (fieldOf s) (s .w) (blockElements s random)) c e
 
 -- ---- a setup that was done
 
@@ -75,7 +39,7 @@ module _ (byte : ℕ) (random public private work : List ℕ) (count : ℕ) (sma
   of-made : (s : Set) → setOf byte ≡ Known s → length random ≡ s .random → length work ≡ s .work → (m : Made) → setup s random ≡ m → Gives (afterSetup m public private work)
   of-made s n long area (made p q c) e a =
       record { s = s; named = n; ours = record { random = random; long = long; bytes = small; count = c; is = e }; area = area }
-  of-made s n long area (fails x) e a = absurd (setup-not s random count (e ∙ ap fails a))
+  of-made s n long area (fails x) e a = absurd (subst (λ (m : Made). Refuses m) (e ∙ ap fails a) (setup-refuses s random))
 
   of-lengths : (s : Set) → setOf byte ≡ Known s → (b : Bool) → setupLengths s (length random) (length public) (length private) (length work) ≡ b
       → Gives (pick b (afterSetup (setup s random) public private work) (record { answer = WrongLength; public = public; private = private; work = work }))

@@ -5,6 +5,7 @@
 --   Promised   promised (every good pair: demand 3)
 --   Setup      setup-pairs (every pair of setup is good)
 --   Blocks     block-triple, sealed (what sealing gives is the ciphertext of a triple)
+--   Ending     demand1 (how every call ends);  Giving  demand2 (what it gives)
 --   Calls      open-all, seal-opens;  Wrapping  wrap-opens
 --   Choosing   seal-chooses, wrap-chooses (a block is passed over exactly if it has a zero error value)
 --   Settled    open-once, unwrap-once (what opening promises leaves one answer, for all inputs)
@@ -30,11 +31,13 @@ mod Chain
 mod Made
 mod Matrices
 pub mod Setup
--- the calls
+-- the calls: how each ends, and what it gives
+pub mod Ending
 pub mod Choosing
 pub mod Blocks
 pub mod Calls
 pub mod Wrapping
+pub mod Giving
 pub mod Known
 pub mod Settled
 pub mod Demands

@@ -32,7 +32,7 @@ use Rattle.tie.proofs.Choices.{le-true, true-le}
 
 -- ---- the wrapped message
 module _ (s : Set) (secret : List ℕ) where
-  message-long : length secret ≤ s .k1 → length (secretMessage s secret) ≡ s .k1
+  pub message-long : length secret ≤ s .k1 → length (secretMessage s secret) ≡ s .k1
   unfolding secretMessage
   message-long h =
       length-append secret (replicate (s .k1 - length secret) 0) ∙ omega (arith, length-replicate {A = ℕ} (s .k1 - length secret) 0)
