@@ -30,8 +30,8 @@ fn judge(s: &mut [u16], n: usize, t: usize) -> bool
     runs::all_zero(s, word + n, t + t)
 }
 
-// Decodes the word in the work area.
-fn decode_in(s: &mut [u16], n: usize, t: usize) -> Decoded
+// Decodes the word in the work area, in place; whatever else the area holds.
+pub fn decode_in(s: &mut [u16], n: usize, t: usize) -> Decoded
     requires { ⌜ Held ten n t (now s) ⌝ }
     ensures { λ r. ⌜ Decides ten n t (now (s .entry)) r (now (s .exit)) ⌝ }
 {

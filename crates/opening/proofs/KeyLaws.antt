@@ -3,9 +3,9 @@ use mathlib.Core.Path.{_≡_, refl, sym, ap, _∙_}
 use mathlib.Core.Logic.{_≢_}
 use mathlib.Core.Bool.{Bool, true, false, false≢true}
 use mathlib.Core.List.{List}
-use Prim.Native.Nat.{ℕ, _+_, _-_, _*_, _/_, _≤_, _<_}
+use Prim.Native.Nat.{ℕ, _+_, _-_, _*_, _/_, _^_, _≤_, _<_}
 use native.Mathlib.Omega.{arith}
-use native.Mathlib.Nat.{mul-add}
+use native.Mathlib.Nat.{mul-add, mul-le-mul-right, mul-le-mul-left}
 use lib.ListN.{length, getD, take, drop, replicate, length-drop, length-replicate}
 use Rattle.lists.specs.Parts.{Wrote}
 use Rattle.lists.proofs.Writing.{wrote-as}
@@ -21,7 +21,7 @@ use Rattle.opening.specs.Reading.{listFrom}
 use Rattle.opening.specs.Area.{secondAt, firstAt, mixedAt}
 use Rattle.opening.specs.Given.{KeyGiven}
 use Rattle.opening.specs.Stages.{Put, Orders, Ordered, Keyed, Formed}
-use Rattle.opening.proofs.Reading.{inverse-is}
+use Rattle.opening.proofs.Reading.{bits-small, inverse-is}
 
 -- the inverse of a permutation
 pub inverse-of : (p : List ℕ) → Perm p → Inverse p (inverseOf p)
@@ -78,6 +78,14 @@ module _ (s : Set) (key : List ℕ) (G : KeyGiven s key) where
   pub ge-fits : 8 * listsEnd s + s .m * (2 * s .w + s .n) + s .m * keyElements s ≤ 8 * length key
   ge-fits =
       omega (arith, G .long, G .valid .private-is, mul-add (s .m) (2 * s .w + s .n) (keyElements s))
+
+  elements-few : keyElements s ≤ s .work
+  elements-few =
+      omega (arith, G .valid .work-is, G .valid .room, mul-le-mul-right {m = s .k} {n = s .n} (s .n + s .w - s .k) (omega (arith, G .valid .room)), mul-le-mul-left {m = s .n + s .w - s .k} {n = s .n + s .w} (s .n) (omega arith))
+
+  pub ge-end : 8 * listsEnd s + s .m * (2 * s .w + s .n) + s .m * keyElements s < 2 ^ 64
+  ge-end =
+      omega (arith, bits-small (G .valid) (2 * s .w + s .n), bits-small (G .valid) (keyElements s), elements-few, G .valid .places, G .valid .small)
 
   pub ge-is : (i : ℕ) → getD (elementsAt (secondAt s) (s .m) key (8 * listsEnd s + s .m * (2 * s .w + s .n))) i 0 ≡ getD (read s key .ge) i 0
   unfolding read

@@ -2,7 +2,7 @@
 use mathlib.Core.Path.{_≡_, refl, sym, ap, _∙_}
 use mathlib.Core.Bool.{Bool}
 use mathlib.Core.List.{List}
-use Prim.Native.Nat.{ℕ, _+_, _-_, _*_, _≤_, _<_}
+use Prim.Native.Nat.{ℕ, _+_, _-_, _*_, _^_, _≤_, _<_}
 use native.Mathlib.Omega.{arith}
 use native.Mathlib.Nat.{mul-le-mul-right}
 use lib.ListN.{length, getD, take, drop, length-drop}
@@ -36,6 +36,9 @@ invert-lent start at n key p l r h e fits = lent at n (λ (q : List ℕ). Invert
 
 pub unpack-fits : (m place at n : ℕ) (key l : List ℕ) → place + m * n ≤ 8 * length key → at + n ≤ length l → place + m * length (take (at + n - at) (drop at l)) ≤ 8 * length key
 unpack-fits m place at n key l h fits = rw (part-long at n l fits) h
+
+pub unpack-small : (m place at n : ℕ) (l : List ℕ) → place + m * n < 2 ^ 64 → at + n ≤ length l → place + m * length (take (at + n - at) (drop at l)) < 2 ^ 64
+unpack-small m place at n l h fits = rw (part-long at n l fits) h
 
 pub unpack-lent : (m place at n : ℕ) (key p l : List ℕ) → p ≡ elementsAt (length (take (at + n - at) (drop at l))) m key place → at + n ≤ length l
     → Wrote at n (λ i. getD (elementsAt n m key place) i 0) l (put at (at + n - at) p l)

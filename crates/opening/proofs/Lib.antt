@@ -15,4 +15,9 @@ pub mod Solving
 pub mod Vectors
 pub mod Preparing
 pub mod Once
+pub mod Differing
+pub mod Accepting
 pub mod RowSums
+pub mod Regular
+pub mod Receiving
+pub mod Answering

@@ -34,7 +34,7 @@ use Rattle.opening.proofs.Parting.{well}
 use Rattle.opening.proofs.Splitting.{split-IT, vector-el}
 use Rattle.opening.proofs.Vectors.{rowSum-el, rowSum-lt, combined-rows}
 
-apart-turn : (n : ℕ) (a b : List ℕ) → apart n a b ≡ apart n b a
+pub apart-turn : (n : ℕ) (a b : List ℕ) → apart n a b ≡ apart n b a
 unfolding apart
 apart-turn zero a b = refl
 apart-turn (suc n) a b = ap₂ (λ (x y : ℕ). x + y) (apart-turn n a b) (at-or (getD a n 0) (getD b n 0)
@@ -81,7 +81,7 @@ module _ (s : Set) (key : List ℕ) (G : KeyGiven s key) (wf : WellFormed s key)
       (vector-once K (sizes s (G .valid)) (keyOf s (G .valid) κ) u I T (split-IT s (G .valid) κ (well s key G wf)) regular-W (word c) (word x) (word x′)
       (vector-el s (G .valid) κ (well s key G wf) c x p) (vector-el s (G .valid) κ (well s key G wf) c x′ q) i (omega (arith, p .long))))
 
-  near : (cipher c : List ℕ) → CodeWord ten (s .n) (s .n - s .k) c → apart (s .n) (undone s κ (elements (s .m) cipher)) c ≤ s .t → Near ten (s .n) (s .t) (undone s κ (elements (s .m) cipher)) c
+  pub near : (cipher c : List ℕ) → CodeWord ten (s .n) (s .n - s .k) c → apart (s .n) (undone s κ (elements (s .m) cipher)) c ≤ s .t → Near ten (s .n) (s .t) (undone s κ (elements (s .m) cipher)) c
   near cipher c w h =
       let e : s .n - s .k ≡ s .t + s .t = omega (arith, G .valid .code) in
       record { code = rw e at w; close = rw (apart-turn (s .n) c (undone s κ (elements (s .m) cipher))) h }

@@ -3,3 +3,7 @@ pub mod Reading
 pub mod Given
 pub mod Area
 pub mod Stages
+pub mod Receiving
+pub mod Tailed
+pub mod Differing
+pub mod Ending

@@ -107,10 +107,10 @@ fn well_formed(s: Set, key: &[u8], work: &mut [u16]) -> bool
 
 // n elements of m bits, from a bit place of the key on, come to the n numbers of the work area from `at` on.
 fn unpack_part(key: &[u8], m: usize, place: usize, work: &mut [u16], at: usize, n: usize)
-    requires { ⌜ (m ≤ 16) × (place + m * n ≤ 8 * length (now key)) × (at + n ≤ length (now work)) ⌝ }
+    requires { ⌜ (m ≤ 16) × (place + m * n ≤ 8 * length (now key)) × (at + n ≤ length (now work)) × (place + m * n < 2 ^ 64) ⌝ }
     ensures { λ _. ⌜ Wrote at n (λ i. getD (elementsAt n m (now (key .entry)) place) i 0) (now (work .entry)) (now (work .exit)) ⌝ }
 {
-    bits::unpack_at(key, m, place, &mut work[at..at + n]);
+    reader::elements(key, m, place, &mut work[at..at + n]);
 }
 
 // GE comes to the front of the work area.

@@ -3,7 +3,7 @@ use mathlib.Core.Path.{_≡_, _∙_, sym}
 use Prim.Native.Nat.{ℕ, _+_, _-_, _*_, _≤_, _<_}
 use native.Mathlib.Omega.{arith}
 use Rattle.opening.proofs.Reading.{bits-small}
-use Rattle.opening.proofs.KeyLaws.{ge-fits, ge-wrote}
+use Rattle.opening.proofs.KeyLaws.{ge-fits, ge-end, ge-wrote}
 use borrow.Author.Needs.{needs}
 use Rattle.opening.proofs.key.unpack_ge.Statement.{statement}
 use Rattle.opening.proofs.key.unpack_ge.Tie as tie
@@ -33,7 +33,7 @@ add-unpack-part-2 : tie.Need-add-unpack-part-2
 add-unpack-part-2 c = omega (arith, bits-small (c .before .before .before .before .before .before .before .before .pre .0 .valid) (2 * (c .before .before .before .before .before .before .before .before .args .s .w) + c .before .before .before .before .before .before .before .before .args .s .n), c .before .before .before .before .before .before .before .before .pre .0 .valid .places, c .before .before .elements-from .ensures .1)
 
 unpack-part-requires : tie.Need-unpack-part-requires
-unpack-part-requires c κs = (c .before .before .before .before .before .before .before .before .before .pre .0 .valid .wide, rw (c .before .before .before .elements-from .ensures .0) (ge-fits (c .before .before .before .before .before .before .before .before .before .args .s) (c .before .before .before .before .before .before .before .before .before .args .key .now) (c .before .before .before .before .before .before .before .before .before .pre .0)), search needs)
+unpack-part-requires c κs = (c .before .before .before .before .before .before .before .before .before .pre .0 .valid .wide, rw (c .before .before .before .elements-from .ensures .0) (ge-fits (c .before .before .before .before .before .before .before .before .before .args .s) (c .before .before .before .before .before .before .before .before .before .args .key .now) (c .before .before .before .before .before .before .before .before .before .pre .0)), search needs, rw (c .before .before .before .elements-from .ensures .0) (ge-end (c .before .before .before .before .before .before .before .before .before .args .s) (c .before .before .before .before .before .before .before .before .before .args .key .now) (c .before .before .before .before .before .before .before .before .before .pre .0)))
 
 same-length : tie.Need-same-length
 same-length c = search needs
