@@ -16,16 +16,17 @@ use Rattle.lists.proofs.Tables.{length-tab, getD-tab}
 use Rattle.theory.specs.Word.{Off}
 use Rattle.theory.proofs.Field.{add-self}
 use Rattle.theory.proofs.Weight.{wt-max, wt-along}
-use Rattle.gf.specs.Field.{Modulus, size}
+use Rattle.gf.specs.Field.{Modulus, _⊕_, size}
+use Rattle.gf.proofs.Xor.{add-assoc, zero-right, add-self as xor-self}
 use Rattle.gf.proofs.Cyclic.{Cyclic}
 use Rattle.gf.proofs.Elements.{el, plus}
-use Rattle.code.specs.Words.{apart}
+use Rattle.code.specs.Words.{sumOf, apart}
 use Rattle.code.specs.Decoding.{Near, Lent}
 use Rattle.code.specs.declared.Decoded.{Decoded}
 use Rattle.code.specs.declared.Decoded.the-variants.{Word, None}
-use Rattle.code.specs.Area.{wordAt, sumsAt}
+use Rattle.code.specs.Area.{wordAt, sumsAt, locatorAt, placesAt}
 use Rattle.lists.specs.Parts.{Wrote}
-use Rattle.code.specs.Stages.{AllZero, Summed, Held, Ready, Placed, SameWord, Corrected, Verdict, Judged, Decides}
+use Rattle.code.specs.Stages.{AllZero, Summed, valueSum, SumsAdded, Amended, Held, Ready, Placed, SameWord, Corrected, Verdict, Judged, Decides}
 use Rattle.code.proofs.Bridge.{K, word, apart-wt}
 use Rattle.code.proofs.Horner.{sum-ext}
 use Rattle.code.proofs.Parts.{part-at, part-is}
@@ -49,17 +50,51 @@ module _ (F : Modulus) (n t : ℕ) (l l′ : List ℕ) (H : Held F n t l) (S : S
         sums = λ j h. S .sums j h ∙ sum-ext F n (λ i. getD l (wordAt t + i) 0) (λ i. getD l′ (wordAt t + i) 0) (1 + j) (λ i g. sym (summed-word .word i g));
       }
 
+-- ---- the word, judged by its power sums, which were made ready
+module _ (F : Modulus) (n t : ℕ) (l l′ : List ℕ) (R : Ready F n t l′) (S : SameWord n t l l′) where
   verdict : (r : Bool) → AllZero (sumsAt n t) (t + t) l′ r → Verdict F n t l′ r
   verdict true z =
       record {
-        long = part-length (wordAt t) n l′ (omega (arith, H .room, S .long));
-        small = λ i h. rw (part-at (wordAt t) n l′ i h) (summed-ready .held .small i h);
-        sums = λ j h. sym (ready-sum F n t l′ summed-ready j h) ∙ z j h;
+        long = part-length (wordAt t) n l′ (omega (arith, R .held .room));
+        small = λ i h. rw (part-at (wordAt t) n l′ i h) (R .held .small i h);
+        sums = λ j h. sym (ready-sum F n t l′ R j h) ∙ z j h;
       }
-  verdict false (i, h, d) = λ C. d (ready-sum F n t l′ summed-ready i h ∙ C .sums i h)
+  verdict false (i, h, d) = λ C. d (ready-sum F n t l′ R i h ∙ C .sums i h)
 
-  pub judged : (r : Bool) → AllZero (sumsAt n t) (t + t) l′ r → Judged F n t l l′ r
-  judged r z = record { ready = summed-ready; same = summed-word; verdict = verdict r z }
+  judged-ready : (r : Bool) → AllZero (sumsAt n t) (t + t) l′ r → Judged F n t l l′ r
+  judged-ready r z = record { ready = R; same = S; verdict = verdict r z }
+
+pub judged : (F : Modulus) (n t : ℕ) (l l′ : List ℕ) → Held F n t l → Summed F (wordAt t) n 1 (sumsAt n t) (t + t) l l′ → (r : Bool) → AllZero (sumsAt n t) (t + t) l′ r → Judged F n t l l′ r
+judged F n t l l′ H S = judged-ready F n t l l′ (summed-ready F n t l l′ H S) (summed-word F n t l l′ H S)
+
+-- ---- the same where the sums came from those of the word before
+module _ (F : Modulus) (n t : ℕ) (l l′ : List ℕ) (r : ℕ) (A : Amended F n t l r) (S : SumsAdded F (locatorAt n t) r (sumsAt n t) (t + t) (λ k. getD l (placesAt n t + k) 0) l l′) where
+  amended-word : SameWord n t l l′
+  amended-word =
+      let few = A .few in
+      record { long = S .long; word = λ i h. S .elsewhere (wordAt t + i) (λ a b. omega arith) (λ a b. omega arith) }
+
+  amended-ready : Ready F n t l′
+  amended-ready =
+      let long = S .long in
+      record {
+        held = record {
+          room = omega (arith, A .held .room);
+          half = A .held .half;
+          order = A .held .order;
+          small = λ i h. rw (amended-word .word i h) (A .held .small i h);
+        };
+        sums = λ j h. S .sums j h ∙ ap (λ (x : ℕ). x ⊕ brought j) (A .sums j h) ∙ back (sumOf F n (λ i. getD l (wordAt t + i) 0) (1 + j)) (brought j) ∙ sum-ext F n (λ i. getD l (wordAt t + i) 0) (λ i. getD l′ (wordAt t + i) 0) (1 + j) (λ i g. sym (amended-word .word i g));
+      }
+    where
+      brought : ℕ → ℕ
+      brought j = valueSum F r (λ k. getD l (locatorAt n t + k) 0) (λ k. getD l (placesAt n t + k) 0) (1 + j)
+
+      back : (a b : ℕ) → a ⊕ b ⊕ b ≡ a
+      back a b = add-assoc a b b ∙ ap (λ (x : ℕ). a ⊕ x) (xor-self b) ∙ zero-right a
+
+  pub judged-amended : (b : Bool) → AllZero (sumsAt n t) (t + t) l′ b → Judged F n t l l′ b
+  judged-amended = judged-ready F n t l l′ amended-ready amended-word
 
 -- ---- words that differ at r places only
 apart-same : (n : ℕ) (a : List ℕ) → apart n a a ≤ 0
@@ -86,7 +121,7 @@ module _ (F : Modulus) (field : Cyclic F) (n t : ℕ) (l l₁ l₂ l₃ : List �
   part₂ : part (wordAt t) n l₂ ≡ part (wordAt t) n l
   part₂ = same-part F n t l₁ l₂ (J .ready .held) S ∙ same-part F n t l l₁ H (J .same)
 
-  pub corrected-held : Held F n t l₃
+  corrected-held : Held F n t l₃
   corrected-held =
       record {
         room = omega (arith, P .ready .held .room, C .long);

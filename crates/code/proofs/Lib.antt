@@ -18,5 +18,6 @@ mod Collecting
 mod Correcting
 mod Parts
 mod Locating
+mod Settling
 mod Valuing
 mod Deciding

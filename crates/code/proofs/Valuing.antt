@@ -19,7 +19,7 @@ use Rattle.theory.proofs.Sum.{sum-ext}
 use Rattle.theory.proofs.Weight.{wt-max}
 use Rattle.theory.proofs.Distance.{vandermonde, points-at, syn-received}
 use Rattle.theory.proofs.Decode.{values}
-use Rattle.gf.specs.Field.{Modulus, width, size, order, _⊕_, alpha}
+use Rattle.gf.specs.Field.{Modulus, width, size, order, _⊕_, mul, alpha}
 use Rattle.gf.proofs.Xor.{add-lt}
 use Rattle.gf.proofs.Ring.{alpha-lt}
 use Rattle.gf.proofs.Cyclic.{Cyclic}
@@ -30,15 +30,16 @@ use Rattle.linear.specs.Kernel.{kernelVector}
 use Rattle.linear.proofs.View.{view}
 use Rattle.linear.proofs.Laws.{right-full}
 use Rattle.linear.proofs.Vector.{vector-solves, vector-small}
-use Rattle.code.specs.Words.{powerSum, apart}
+use Rattle.code.specs.Words.{sumOf, powerSum, apart}
 use Rattle.code.specs.Decoding.{Near}
 use Rattle.code.specs.Area.{wordAt, sumsAt, locatorAt, valuesAt, pointsAt, placesAt}
 use Rattle.lists.specs.Parts.{Wrote}
-use Rattle.code.specs.Stages.{PowerRows, Solved, Added, Placed, Corrected}
+use Rattle.code.specs.Stages.{PowerRows, Solved, Added, Placed, Corrected, valueSum, Amended}
 use Rattle.code.proofs.Bridge.{K, X, word, point-pow, sum-lt, sum-syn, code-is}
 use Rattle.code.proofs.Matrices.{entry-within, front-matrix}
 use Rattle.code.proofs.Parts.{part-at}
 use Rattle.code.proofs.Locating.{ready-sum}
+use Rattle.code.proofs.Settling.{total-ext, added-sum}
 
 -- fewer rows take less room
 pub area-up : (r t : ℕ) → r ≤ t → r * (r + 1) ≤ t * (t + 1)
@@ -248,3 +249,47 @@ module _ (F : Modulus) (n t : ℕ) (l : List ℕ) (r : ℕ) (P : Placed F n t l 
                   go : ((k : ℕ) × (k < r) × (i ≡ getD l (placesAt n t + k) 0)) ⊎ Off r (λ k. getD l (placesAt n t + k) 0) i → getD l₅ (wordAt t + i) 0 ≡ getD c i 0
                   go (inl (k, g, q)) = rw q (at k g)
                   go (inr o) = off-places i h o ∙ sym (P .errors c N i h o)
+
+          -- ---- the power sums that stand there, and those of the word now
+          abbrev places : ℕ → ℕ
+          places k = getD l (placesAt n t + k) 0
+
+          past : (i : ℕ) → wordAt t + n ≤ i → getD l₅ i 0 ≡ getD l₄ i 0
+          past i h = A .elsewhere i (λ k g q. omega (arith, below₄ k g))
+
+          place₅ : (k : ℕ) → getD l₅ (placesAt n t + k) 0 ≡ places k
+          place₅ k = past (placesAt n t + k) (omega arith) ∙ place₄ k
+
+          value₅ : (k : ℕ) → k < r → getD l₅ (locatorAt n t + k) 0 ≡ getD vector k 0
+          value₅ k h = past (locatorAt n t + k) (omega arith) ∙ Sv .there k (omega arith)
+
+          point₅ : (k : ℕ) → k < r → getD l₅ (valuesAt n t + t + k) 0 ≡ alpha F (getD l₅ (placesAt n t + k) 0)
+          point₅ k h =
+              let a = half in
+              let b = few in
+              let up = area-up r t b in
+              past (valuesAt n t + t + k) (omega arith)
+              ∙ Sv .elsewhere (valuesAt n t + t + k) (omega arith) (λ x y. omega arith)
+              ∙ R .elsewhere (valuesAt n t + t + k) (omega arith) (λ x y. omega arith)
+              ∙ known k h .1 ∙ ap (alpha F) (place₂ k ∙ sym (place₅ k))
+
+          brought : (j : ℕ) → valueSum F r (λ k. getD vector k 0) places j ≡ valueSum F r (λ k. getD l₅ (locatorAt n t + k) 0) (λ k. getD l₅ (placesAt n t + k) 0) j
+          brought j =
+              total-ext r _ _ (λ k h. ap₂ (λ (x y : ℕ). mul F x (alpha F (y * j))) (sym (value₅ k h)) (sym (place₅ k)))
+
+          pub amended : Amended F n t l₅ r
+          amended =
+              record {
+                held = record {
+                  room = omega (arith, P .ready .held .room, corrected .long);
+                  half = half;
+                  order = P .ready .held .order;
+                  small = corrected .small;
+                };
+                few = few;
+                small = λ k h. rw (value₅ k h) (vector-small F field r (r + 1) lt front M k (omega arith));
+                points = point₅;
+                sums = λ j h. past (sumsAt n t + j) (omega arith) ∙ to₄ (sumsAt n t + j) (omega arith) (λ x y. omega arith) ∙ P .ready .sums j h
+                    ∙ added-sum F field n r (λ i. getD l (wordAt t + i) 0) (λ i. getD l₅ (wordAt t + i) 0) (λ k. getD vector k 0) places Q at-place off-places (1 + j)
+                    ∙ ap (λ (x : ℕ). sumOf F n (λ i. getD l₅ (wordAt t + i) 0) (1 + j) ⊕ x) (brought (1 + j));
+              }

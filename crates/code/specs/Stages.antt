@@ -3,7 +3,7 @@ use mathlib.Core.Path.{_≡_}
 use mathlib.Core.Logic.{_≢_}
 use mathlib.Core.Bool.{Bool, true, false}
 use mathlib.Core.List.{List}
-use Prim.Native.Nat.{ℕ, _+_, _*_, _<_, _≤_}
+use Prim.Native.Nat.{ℕ, zero, suc, _+_, _*_, _<_, _≤_}
 use lib.ListN.{length, getD, set, take}
 use Rattle.lists.specs.Parts.{part}
 use Rattle.gf.specs.Field.{Modulus, _⊕_, size, order, mul, alpha}
@@ -14,7 +14,7 @@ use Rattle.code.specs.Words.{sumOf, CodeWord}
 use Rattle.code.specs.Decoding.{Near}
 use Rattle.code.specs.declared.Decoded.{Decoded}
 use Rattle.code.specs.declared.Decoded.the-variants.{Word, None}
-use Rattle.code.specs.Area.{wordAt, sumsAt, pointsAt, placesAt, decodeRoom}
+use Rattle.code.specs.Area.{wordAt, sumsAt, locatorAt, valuesAt, pointsAt, placesAt, decodeRoom}
 
 -- the n numbers from a on are all 0, or one of them is not
 abbrev pub AllZero : ℕ → ℕ → List ℕ → Bool → Type 0
@@ -89,6 +89,29 @@ pub record Added (w at r y : ℕ) (l l′ : List ℕ) : Type 0 where
   pub there : (k : ℕ) → k < r → getD l′ (w + getD l (at + k) 0) 0 ≡ getD l (w + getD l (at + k) 0) 0 ⊕ getD l (y + k) 0
   pub elsewhere : (i : ℕ) → ((k : ℕ) → k < r → i ≢ w + getD l (at + k) 0) → getD l′ i 0 ≡ getD l i 0
 
+-- f 0, .., f (n - 1), added up
+unfoldable pub total : ℕ → (ℕ → ℕ) → ℕ
+total zero f = 0
+total (suc n) f = total n f ⊕ f n
+
+-- what the values y 0, .., y (r - 1) at the places e 0, .., e (r - 1) bring to the power sum number j
+abbrev pub valueSum : Modulus → ℕ → (ℕ → ℕ) → (ℕ → ℕ) → ℕ → ℕ
+valueSum F r y e j = total r (λ k. mul F (y k) (alpha F (e k * j)))
+
+-- the r numbers from y on were multiplied by those from q on, and the products were added to the number at c
+pub record TotalAdded (F : Modulus) (y q r c : ℕ) (l l′ : List ℕ) : Type 0 where
+  pub long : length l′ ≡ length l
+  pub values : (k : ℕ) → k < r → getD l′ (y + k) 0 ≡ mul F (getD l (y + k) 0) (getD l (q + k) 0)
+  pub sum : getD l′ c 0 ≡ getD l c 0 ⊕ total r (λ k. mul F (getD l (y + k) 0) (getD l (q + k) 0))
+  pub elsewhere : (i : ℕ) → (y ≤ i → i < y + r → ⊥) → i ≢ c → getD l′ i 0 ≡ getD l i 0
+
+-- what the r values from y on, at the places e 0, e 1, .., bring to the power sums 1 .. m was added to the m numbers from c on
+pub record SumsAdded (F : Modulus) (y r c m : ℕ) (e : ℕ → ℕ) (l l′ : List ℕ) : Type 0 where
+  pub long : length l′ ≡ length l
+  pub sums : (j : ℕ) → j < m → getD l′ (c + j) 0 ≡ getD l (c + j) 0 ⊕ valueSum F r (λ k. getD l (y + k) 0) e (1 + j)
+  pub values : (k : ℕ) → k < r → getD l′ (y + k) 0 ≡ mul F (getD l (y + k) 0) (alpha F (e k * m))
+  pub elsewhere : (i : ℕ) → (c ≤ i → i < c + m → ⊥) → (y ≤ i → i < y + r → ⊥) → getD l′ i 0 ≡ getD l i 0
+
 -- ---- what the two halves of decoding ask and find
 
 -- the work area has room and holds a word of elements
@@ -123,6 +146,15 @@ pub record Corrected (F : Modulus) (n t : ℕ) (l : List ℕ) (r : ℕ) (l′ : 
   pub small : (i : ℕ) → i < n → getD l′ (wordAt t + i) 0 < size F
   pub kept : (i : ℕ) → i < n → ((k : ℕ) → k < r → i ≢ getD l (placesAt n t + k) 0) → getD l′ (wordAt t + i) 0 ≡ getD l (wordAt t + i) 0
   pub fixed : (c : List ℕ) → Near F n t (part (wordAt t) n l) c → (i : ℕ) → i < n → getD l′ (wordAt t + i) 0 ≡ getD c i 0
+
+-- the r values from the locator's place on were added at the places found, and the power sums are still those of the word before; the
+-- points at these places stand ready
+pub record Amended (F : Modulus) (n t : ℕ) (l : List ℕ) (r : ℕ) : Type 0 where
+  pub held : Held F n t l
+  pub few : r ≤ t
+  pub small : (k : ℕ) → k < r → getD l (locatorAt n t + k) 0 < size F
+  pub points : (k : ℕ) → k < r → getD l (valuesAt n t + t + k) 0 ≡ alpha F (getD l (placesAt n t + k) 0)
+  pub sums : (j : ℕ) → j < t + t → getD l (sumsAt n t + j) 0 ≡ sumOf F n (λ i. getD l (wordAt t + i) 0) (1 + j) ⊕ valueSum F r (λ k. getD l (locatorAt n t + k) 0) (λ k. getD l (placesAt n t + k) 0) (1 + j)
 
 -- whether the word is a code word
 abbrev pub Verdict : Modulus → ℕ → ℕ → List ℕ → Bool → Type 0

@@ -10,6 +10,7 @@ ghost use Rattle.code.specs.Stages.{Held, Judged, Decides};
 mod places;
 mod root;
 mod runs;
+mod settle;
 mod solve;
 mod sums;
 mod values;
@@ -40,7 +41,7 @@ pub fn decode_in(s: &mut [u16], n: usize, t: usize) -> Decoded
     }
     let r = places::find_places(s, n, t);
     values::correct(s, n, t, r);
-    if judge(s, n, t) {
+    if settle::judge_corrected(s, n, t, r) {
         return Decoded::Word;
     }
     Decoded::None

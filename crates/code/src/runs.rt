@@ -6,7 +6,7 @@ ghost use Rattle.lists.specs.Loops.{tab};
 ghost use Rattle.gf.specs.Field.{_⊕_, alpha};
 ghost use Rattle.gf.specs.Ten.{ten};
 ghost use Rattle.lists.specs.Parts.{Wrote};
-ghost use Rattle.code.specs.Stages.{AllZero};
+ghost use Rattle.code.specs.Stages.{AllZero, total};
 
 // The n numbers from `at` on become 0.
 pub fn clear(s: &mut [u16], at: usize, n: usize)
@@ -96,4 +96,18 @@ pub fn all_zero(s: &[u16], at: usize, n: usize) -> bool
         i += 1;
     }
     true
+}
+
+// The sum of the n numbers from `at` on.
+pub fn total(s: &[u16], at: usize, n: usize) -> u16
+    requires { ⌜ at + n ≤ length (now s) ⌝ }
+    ensures { λ r. ⌜ r ≡ total n (λ k. getD (now (s .entry)) (at + k) 0) ⌝ }
+{
+    let mut x: u16 = 0;
+    let mut i = 0;
+    while i < n {
+        x = x ^ s[at + i];
+        i += 1;
+    }
+    x
 }

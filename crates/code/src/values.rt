@@ -5,7 +5,7 @@ ghost use lib.ListN.{length, getD, set};
 ghost use Rattle.gf.specs.Field.{_⊕_, alpha};
 ghost use Rattle.gf.specs.Ten.{ten};
 ghost use Rattle.lists.specs.Parts.{Wrote};
-ghost use Rattle.code.specs.Stages.{PowerRow, PowerRows, Added, Placed, Corrected};
+ghost use Rattle.code.specs.Stages.{PowerRow, PowerRows, Added, Placed, Corrected, Amended};
 
 // The number at `at`, which is a place.
 fn place(s: &[u16], at: usize) -> usize
@@ -85,7 +85,7 @@ fn add_values(s: &mut [u16], w: usize, n: usize, y: usize, at: usize, r: usize)
 // Corrects the word at the r places found, by the solution of the equations of their values.
 pub fn correct(s: &mut [u16], n: usize, t: usize, r: usize)
     requires { ⌜ Placed ten n t (now s) r ⌝ }
-    ensures { λ _. ⌜ Corrected ten n t (now (s .entry)) r (now (s .exit)) ⌝ }
+    ensures { λ _. ⌜ Corrected ten n t (now (s .entry)) r (now (s .exit)) × Amended ten n t (now (s .exit)) r ⌝ }
 {
     let word = t * (t + 1);
     let locator = word + n + (t + t + (t + t));

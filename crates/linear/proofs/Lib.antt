@@ -8,6 +8,7 @@ mod Reduction
 mod Search
 mod Ends
 mod Keeps
+mod Clearing
 mod Beside
 mod Reading
 mod Examples

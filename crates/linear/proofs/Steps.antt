@@ -9,12 +9,12 @@ use native.Mathlib.Omega.{arith}
 use lib.Dec.{eqb}
 use borrow.Author.Tests.{eq-eqb, ne-eqb, lt-ltb, le-ltb}
 use Rattle.lists.specs.Loops.{turns}
-use Rattle.lists.proofs.Loops.{turns-more, turns-end, left-suc}
+use Rattle.lists.proofs.Loops.{turns-more, left-suc}
 use Rattle.gf.specs.Field.{Modulus, inverse}
 use Rattle.gf.specs.Runs.{addRun, scaleRun}
 use Rattle.linear.specs.Matrix.{entry, swapAt, swapRun}
 use Rattle.linear.specs.Columns.{Lead}
-use Rattle.linear.specs.Elimination.{Work, Did, Done, Ended, pivotRow, placePivot, scalePivot, clearRow, clearNext, clearColumn, reduceColumn, eliminateFrom}
+use Rattle.linear.specs.Elimination.{Did, Done, Ended, pivotRow, placePivot, scalePivot, clearRow, clearColumn, reduceColumn, eliminateFrom}
 use Rattle.linear.proofs.Runs.{scale-from, add-from}
 
 -- ---- where a row and an entry lie. n is the length now, n₀ the one that a `requires` speaks of
@@ -73,21 +73,11 @@ module _ (F : Modulus) (cols c i : ℕ) (l : List ℕ) where
     unfolding clearRow
     clear-zero e = rw (ne-eqb i c other, ← read, eq-eqb x 0 e) (record { mat = refl; ops = refl; few = omega arith })
 
-    pub clear-adds : (x ≡ 0 → ⊥) → c < cols → Lead cols c l → (l′ : List ℕ) → l′ ≡ addRun F (i * cols + c) (c * cols + c) (cols - c) x l → Did (clearRow F cols c i l) 1 l′ 1
+    pub clear-adds : (x ≡ 0 → ⊥) → c < cols → Lead cols c l → (b : ℕ) → b ≤ c → (l′ : List ℕ) → l′ ≡ addRun F (i * cols + b) (c * cols + b) (cols - b) x l → Did (clearRow F cols c i l) 1 l′ 1
     unfolding clearRow
-    clear-adds ne h lead l′ e =
-        let le : c ≤ cols = omega arith in
-        rw (ne-eqb i c other, ← read, ne-eqb x 0 ne) (record { mat = e ∙ add-from F c cols x l le (i * cols) (c * cols) lead; ops = refl; few = omega arith })
-
--- ---- the loop over the rows
-pub clear-more : (F : Modulus) (cols c i : ℕ) (w₀ : Work) (m : List ℕ) (ops : ℕ) (l : List ℕ) (k : ℕ) → _≡_ {A = Work} (record { mat = m; ops = ops }) (turns (clearNext F cols c) i w₀)
-    → Did (clearRow F cols c i m) 1 l k → _≡_ {A = Work} (record { mat = l; ops = ops + k }) (turns (clearNext F cols c) (i + 1) w₀)
-clear-more F cols c i w₀ m ops l k e d = rw (d .mat, d .ops) (turns-more (clearNext F cols c) i w₀ (record { mat = m; ops = ops }) e)
-
-pub clear-end : (F : Modulus) (rows cols c i : ℕ) (l m : List ℕ) (ops : ℕ) → _≡_ {A = Work} (record { mat = m; ops = ops }) (turns (clearNext F cols c) i (record { mat = l; ops = 0 })) → i ≤ rows → rows ≤ i → ops ≤ i
-    → Did (clearColumn F rows cols c l) rows m ops
-unfolding clearColumn
-clear-end F rows cols c i l m ops e h g few = rw (← turns-end _ rows i _ _ e h g) (record { mat = refl; ops = refl; few = omega arith })
+    clear-adds ne h lead b at l′ e =
+        let le : b ≤ cols = omega arith in
+        rw (ne-eqb i c other, ← read, ne-eqb x 0 ne) (record { mat = e ∙ add-from F b cols x l le (i * cols) (c * cols) (λ j g. lead j (omega arith)); ops = refl; few = omega arith })
 
 -- ---- a column, and the loop over the columns
 pub reduce-does : (F : Modulus) (rows cols c p : ℕ) (l₀ l₁ l₂ l₃ : List ℕ) (a b d : ℕ) → Did (placePivot cols p c l₀) 1 l₁ a → Did (scalePivot F cols c l₁) 1 l₂ b → Did (clearColumn F rows cols c l₂) rows l₃ d

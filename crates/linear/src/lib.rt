@@ -6,7 +6,7 @@ ghost use lib.ListN.{length};
 ghost use Rattle.gf.specs.Ten.{ten};
 ghost use Rattle.linear.specs.Matrix.{Matrix, entry, swapRun};
 ghost use Rattle.linear.specs.Elimination.{Did, Ended, pivotRow, placePivot, scalePivot, clearRow, clearColumn, reduceColumn, eliminated};
-ghost use Rattle.linear.specs.Columns.{Lead, Reduced};
+ghost use Rattle.linear.specs.Columns.{Lead, Spared, Cleared, Reduced};
 
 pub mod inverse;
 pub mod kernel;
@@ -77,34 +77,54 @@ fn scale_pivot(m: &mut [u16], cols: usize, c: usize) -> usize
     1
 }
 
-// Clears column c of row i, unless i is c or the entry is 0. Row c is zero before column c, so the work begins there.
-fn clear_row(m: &mut [u16], cols: usize, c: usize, i: usize) -> usize
-    requires { ⌜ (i * cols + cols ≤ length (now m)) × (c * cols + cols ≤ length (now m)) × (c < cols) × Lead cols c (now m) ⌝ }
+// Where a run to the end of row c begins: at column c, or up to 7 columns before it, so that 8 divides its length.
+fn run_start(cols: usize, c: usize) -> usize
+    requires { ⌜ c < cols ⌝ }
+    ensures { λ r. ⌜ r ≤ c ⌝ }
+{
+    let back = (8 - (cols - c) % 8) % 8;
+    if c < back {
+        return c;
+    }
+    c - back
+}
+
+// Clears column c of row i, unless the entry is 0. Row c is zero before column c, so the work may begin at any column b up to c.
+fn clear_row(m: &mut [u16], cols: usize, c: usize, b: usize, i: usize) -> usize
+    requires { ⌜ (i * cols + cols ≤ length (now m)) × (c * cols + cols ≤ length (now m)) × (c < cols) × (b ≤ c) × (i ≡ c → ⊥) × Lead cols c (now m) ⌝ }
     ensures { λ r. ⌜ Did (clearRow ten cols c i (now (m .entry))) 1 (now (m .exit)) r ⌝ }
 {
-    if i == c {
-        return 0;
-    }
     let x = at(m, cols, i, c);
     if x == 0 {
         return 0;
     }
-    gf::add_run(m, i * cols + c, c * cols + c, cols - c, x);
+    gf::add_run(m, i * cols + b, c * cols + b, cols - b, x);
     1
 }
 
-// Clears column c of every row but c.
+// Clears column c of the rows from `from` up to `to`, of which c is none, after `ops` row operations. Answers how many there are then.
+fn clear_rows(m: &mut [u16], cols: usize, c: usize, from: usize, to: usize, ops: usize) -> usize
+    requires { ⌜ (to * cols ≤ length (now m)) × (c * cols + cols ≤ length (now m)) × (c < cols) × (from ≤ to) × (ops ≤ from) × Spared c from to × Lead cols c (now m) ⌝ }
+    ensures { λ r. ⌜ Cleared ten cols c from to (now (m .entry)) ops (now (m .exit)) r ⌝ }
+{
+    let b = run_start(cols, c);
+    let mut k = ops;
+    let mut i = from;
+    while i < to {
+        k += clear_row(m, cols, c, b, i);
+        i += 1;
+    }
+    k
+}
+
+// Clears column c of every row but c. The rows before it and those after it have loops of their own: in one loop over all rows the
+// compiler would find row c, which is read, among those that are written, and would use no vectors.
 fn clear_column(m: &mut [u16], rows: usize, cols: usize, c: usize) -> usize
     requires { ⌜ (rows * cols ≤ length (now m)) × (c < rows) × (c < cols) × Lead cols c (now m) ⌝ }
     ensures { λ r. ⌜ Did (clearColumn ten rows cols c (now (m .entry))) rows (now (m .exit)) r ⌝ }
 {
-    let mut ops = 0;
-    let mut i = 0;
-    while i < rows {
-        ops += clear_row(m, cols, c, i);
-        i += 1;
-    }
-    ops
+    let ops = clear_rows(m, cols, c, 0, c, 0);
+    clear_rows(m, cols, c, c + 1, rows, ops)
 }
 
 // Column c, whose first usable row is p.

@@ -1,11 +1,8 @@
 -- A multiple of the zeros before the pivot adds nothing, so the shorter run is the whole one.
-use Rattle.linear.proofs.Steps.{clear-self, clear-zero, clear-adds}
+use Rattle.linear.proofs.Steps.{clear-zero, clear-adds}
 use borrow.Author.Needs.{needs}
 use Rattle.linear.proofs.clear_row.Statement.{statement}
 use Rattle.linear.proofs.clear_row.Tie as tie
-
-returns : tie.Need-returns
-returns c = search clear-self
 
 at-requires : tie.Need-at-requires
 at-requires c κs = search needs
@@ -13,8 +10,8 @@ at-requires c κs = search needs
 same-length : tie.Need-same-length
 same-length c = search needs
 
-returns-2 : tie.Need-returns-2
-returns-2 c = search clear-zero
+returns : tie.Need-returns
+returns c = search clear-zero
 
 mul-add-run : tie.Need-mul-add-run
 mul-add-run c = search needs
@@ -37,17 +34,16 @@ add-run-requires c κs = search needs
 same-length-2 : tie.Need-same-length-2
 same-length-2 c = search needs
 
-returns-3 : tie.Need-returns-3
-returns-3 c = search clear-adds
+returns-2 : tie.Need-returns-2
+returns-2 c = search clear-adds
 
 pub clear-row-spec : {M : Type 1} → statement M
 clear-row-spec =
     tie.close
     (tie.spec
-    returns
     at-requires
     same-length
-    returns-2
+    returns
     mul-add-run
     add-add-run
     mul-add-run-2
@@ -55,4 +51,4 @@ clear-row-spec =
     sub-add-run
     add-run-requires
     same-length-2
-    returns-3)
+    returns-2)

@@ -2,7 +2,7 @@
 use native.Mathlib.Omega.{arith}
 use Rattle.gf.specs.Ten.{ten}
 use Rattle.gf.proofs.Ten.{ten-field}
-use Rattle.code.proofs.Valuing.{area-up, below₁, known, value-matrix, below₄, rising₄, corrected}
+use Rattle.code.proofs.Valuing.{area-up, below₁, known, value-matrix, below₄, rising₄, corrected, amended}
 use borrow.Author.Needs.{needs}
 use Rattle.code.proofs.values.correct.Statement.{statement}
 use Rattle.code.proofs.values.correct.Tie as tie
@@ -91,7 +91,13 @@ same-length c = search needs
 
 returns : tie.Need-returns
 returns c =
-    corrected ten _ _ _ _ (c .before .before .before .before .before .before .before .before .before .before .before .before .before .before .before .before .before .before .before .before .before .pre) _ (c .before .before .before .before .before .before .before .before .before .before .before .before .before .before .before .before .before .before .gather .ensures) _ (c .before .before .before .before .before .before .before .before .before .before .before .before .before .before .gather2 .ensures) _ (c .before .before .before .before .before .before .before .before .before .before .power-rows .ensures) ten-field _ (c .before .before .before .before .before .before .solve .ensures) _ (c .before .before .add-values .ensures)
+    let pre = c .before .before .before .before .before .before .before .before .before .before .before .before .before .before .before .before .before .before .before .before .before .pre in
+    let first = c .before .before .before .before .before .before .before .before .before .before .before .before .before .before .before .before .before .before .gather .ensures in
+    let second = c .before .before .before .before .before .before .before .before .before .before .before .before .before .before .gather2 .ensures in
+    let rows = c .before .before .before .before .before .before .before .before .before .before .power-rows .ensures in
+    let solution = c .before .before .before .before .before .before .solve .ensures in
+    let sum = c .before .before .add-values .ensures in
+    (corrected ten _ _ _ _ pre _ first _ second _ rows ten-field _ solution _ sum, amended ten _ _ _ _ pre _ first _ second _ rows ten-field _ solution _ sum)
 
 pub correct-spec : {M : Type 1} → statement M
 correct-spec =
