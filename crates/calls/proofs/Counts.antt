@@ -1,4 +1,4 @@
--- The count of every answer is small: at most 5 windows of a setup, at most 16 blocks of a sealing.
+-- The count of every answer is small: at most 5 windows of a setup, at most 16 blocks of a sealing, 0 of an opening.
 use mathlib.Core.Path.{_≡_, refl, sym, ap, _∙_}
 use mathlib.Core.Bool.{Bool, true, false, _&&_}
 use mathlib.Core.List.{List, [], _∷_}
@@ -13,14 +13,15 @@ use Rattle.sets.specs.declared.Named.{Named}
 use Rattle.sets.specs.declared.Named.the-variants.{Known, Unknown}
 use Rattle.sets.specs.Table.{setOf}
 use Rattle.scheme.specs.declared.Answer.{Answer}
-use Rattle.scheme.specs.declared.Answer.the-variants.{Done, WrongLength, WrongSecret, ZeroValues, FewMultipliers, FewElements, NoWindow, Dependent}
+use Rattle.scheme.specs.declared.Answer.the-variants.{Done, UnknownSet, WrongLength, FewMultipliers, FewElements, NoWindow, Dependent, Malformed, Singular, ZeroValues, NotOpened, WrongSecret}
 use Rattle.scheme.specs.Answers.{countOf}
 use Rattle.scheme.specs.Field.{fieldOf}
 use Rattle.scheme.specs.Matrices.{listed}
 use Rattle.linear.specs.Elimination.{eliminated}
 use Rattle.scheme.specs.Setup.{Made, made, fails, Found, found, none, usable, permutation2, window, chain, reducedPair, withBlocks, setup}
 use Rattle.scheme.specs.Sealing.{firstFitting, sealedBy, secretMessage}
-use Rattle.scheme.specs.Calls.{zeroed, SetupEnd, setupLengths, afterSetup, setupOf, setupEnds, SealEnd, sealLengths, afterSeal, sealOf, sealEnds, wrapOf, wrapEnds}
+use Rattle.scheme.specs.Opening.{Opens}
+use Rattle.scheme.specs.Calls.{zeroed, SetupEnd, setupLengths, afterSetup, setupOf, setupEnds, SealEnd, sealLengths, afterSeal, sealOf, sealEnds, wrapOf, wrapEnds, OpenCase, Untouched, Opening, openLengths, OpenChecked, OpenOf, OpenEnds, GivesSecret, UnwrapSized, UnwrapChecked, UnwrapOf, UnwrapEnds}
 use Rattle.calls.specs.Ends.{setupEnd, sealEnd}
 use Rattle.calls.proofs.Rows.{both}
 
@@ -137,3 +138,59 @@ module _ (random msg cipher work : List ℕ) where
     wrap-count e =
         let q : countOf r ≡ countOf (wrapEnds key random msg cipher work .answer) = ap (λ (x : SealEnd). countOf (x .answer)) e in
         omega (arith, wrap-few key)
+
+-- ---- opening and unwrapping
+untouched-few : (a : Answer) (out work : List ℕ) (r : Answer) (out′ work′ : List ℕ) → countOf a ≡ 0 → Untouched a out work r out′ work′ → countOf r ≡ 0
+untouched-few a out work r out′ work′ z u = rw (u .answers) z
+
+case-few : (s : Set) (key cipher : List ℕ) (Gives : List ℕ → Type 0) (before : List ℕ) (r : Answer) (after : List ℕ) → OpenCase s key cipher Gives before r after → countOf r ≡ 0
+case-few s key cipher Gives before (Done count) after o = o .0
+case-few s key cipher Gives before UnknownSet after o = refl
+case-few s key cipher Gives before WrongLength after o = refl
+case-few s key cipher Gives before FewMultipliers after o = refl
+case-few s key cipher Gives before FewElements after o = refl
+case-few s key cipher Gives before NoWindow after o = refl
+case-few s key cipher Gives before Dependent after o = refl
+case-few s key cipher Gives before Malformed after o = refl
+case-few s key cipher Gives before Singular after o = refl
+case-few s key cipher Gives before ZeroValues after o = refl
+case-few s key cipher Gives before NotOpened after o = refl
+case-few s key cipher Gives before WrongSecret after o = refl
+
+module _ (cipher out work : List ℕ) (r : Answer) (out′ work′ : List ℕ) where
+  opening-few : (s : Set) (key : List ℕ) (Gives : List ℕ → Type 0) → Opening s key cipher Gives out work r out′ work′ → countOf r ≡ 0
+  opening-few s key Gives o = case-few s key cipher Gives out r out′ (o .case)
+
+  open-checked-few : (t : Bool) (s : Set) (key : List ℕ) → OpenChecked t s key cipher out work r out′ work′ → countOf r ≡ 0
+  open-checked-few true s key o = opening-few s key (Opens s key cipher) o
+  open-checked-few false s key o = untouched-few WrongLength out work r out′ work′ refl o
+
+  open-of-few : (n : Named) (key : List ℕ) → OpenOf n key cipher out work r out′ work′ → countOf r ≡ 0
+  open-of-few Unknown key o = untouched-few UnknownSet out work r out′ work′ refl o
+  open-of-few (Known s) key o = open-checked-few (openLengths s (length key) (length cipher) (length work) && eqb (length out) (s .k1)) s key o
+
+  open-few : (key : List ℕ) → OpenEnds key cipher out work r out′ work′ → countOf r ≡ 0
+  open-few [] o = untouched-few WrongLength out work r out′ work′ refl o
+  open-few (b ∷ key) o = open-of-few (setOf b) (b ∷ key) o
+
+  unwrap-sized-few : (t : Bool) (s : Set) (key : List ℕ) → UnwrapSized t s key cipher out work r out′ work′ → countOf r ≡ 0
+  unwrap-sized-few true s key o = opening-few s key (GivesSecret s key cipher (length out)) o
+  unwrap-sized-few false s key o = untouched-few WrongSecret out work r out′ work′ refl o
+
+  unwrap-checked-few : (t : Bool) (s : Set) (key : List ℕ) → UnwrapChecked t s key cipher out work r out′ work′ → countOf r ≡ 0
+  unwrap-checked-few true s key o = unwrap-sized-few (leb 1 (length out) && leb (length out) (s .k1)) s key o
+  unwrap-checked-few false s key o = untouched-few WrongLength out work r out′ work′ refl o
+
+  unwrap-of-few : (n : Named) (key : List ℕ) → UnwrapOf n key cipher out work r out′ work′ → countOf r ≡ 0
+  unwrap-of-few Unknown key o = untouched-few UnknownSet out work r out′ work′ refl o
+  unwrap-of-few (Known s) key o = unwrap-checked-few (openLengths s (length key) (length cipher) (length work)) s key o
+
+  unwrap-few : (key : List ℕ) → UnwrapEnds key cipher out work r out′ work′ → countOf r ≡ 0
+  unwrap-few [] o = untouched-few WrongLength out work r out′ work′ refl o
+  unwrap-few (b ∷ key) o = unwrap-of-few (setOf b) (b ∷ key) o
+
+  pub open-count : (key : List ℕ) → OpenEnds key cipher out work r out′ work′ → countOf r < 256
+  open-count key o = omega (arith, open-few key o)
+
+  pub unwrap-count : (key : List ℕ) → UnwrapEnds key cipher out work r out′ work′ → countOf r < 256
+  unwrap-count key o = omega (arith, unwrap-few key o)

@@ -1,4 +1,5 @@
 // Sealing a message and wrapping a secret under a public key (01, Padding, sealing, opening).
+use crate::space::room;
 use lists::wipe_bytes;
 use lists::wipe_numbers;
 use scheme::Answer;
@@ -128,13 +129,6 @@ fn wrap_in(
     wipe_bytes(message);
     bytes::copy(secret, message);
     seal_checked(s, key, random, message, cipher, work)
-}
-
-// Room for a message.
-fn room() -> [u8; 2048]
-    ensures { λ r. ⌜ 2048 ≡ length r ⌝ }
-{
-    [0; 2048]
 }
 
 // Wrapping past the first checks. The message is wiped.

@@ -1,4 +1,5 @@
 // Opening a ciphertext and unwrapping a secret with a private key (01, Padding, sealing, opening).
+use crate::space::room;
 use lists::wipe_bytes;
 use lists::wipe_numbers;
 use opening::Opened;
@@ -125,13 +126,6 @@ fn unwrap_in(
         Opened::Singular => withhold(Answer::Singular, secret),
         Opened::Not => withhold(Answer::NotOpened, secret),
     }
-}
-
-// Room for a message.
-fn room() -> [u8; 2048]
-    ensures { λ r. ⌜ 2048 ≡ length r ⌝ }
-{
-    [0; 2048]
 }
 
 // Unwrapping past the first checks. The message is wiped.

@@ -5,3 +5,4 @@
 pub mod closing;
 pub mod disclosing;
 pub mod founding;
+mod space;

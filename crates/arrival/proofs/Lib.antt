@@ -1,0 +1,2 @@
+-- The message arrives: the theorems of the crate `demands`, over what the calls ensure.
+pub mod Ways

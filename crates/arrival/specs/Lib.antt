@@ -1,0 +1,2 @@
+-- What holds of a message that went through the calls.
+pub mod Arrives
