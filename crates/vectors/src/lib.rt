@@ -24,12 +24,17 @@ pub fn number(n: usize) {
     text(b" ");
 }
 
-// Two hexadecimal digits a byte, and the line's end.
-pub fn line(s: &[u8]) {
+// Two hexadecimal digits a byte.
+pub fn hex(s: &[u8]) {
     let mut i: usize = 0;
     while i < s.len() {
         io::print_hex(STDOUT_FILENO, wide(s[i]), 2);
         i += 1;
     }
+}
+
+// The same, and the line's end.
+pub fn line(s: &[u8]) {
+    hex(s);
     text(b"\n");
 }

@@ -1,0 +1,2 @@
+-- The lengths of large arrays.
+pub mod Repeats
