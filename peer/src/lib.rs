@@ -41,6 +41,7 @@
 //! | algebra and code | [`matrix`], [`reed_solomon`] |
 //! | scheme | [`sets`], [`refusal`], [`pad`], [`keys`], [`mod@setup`], [`mod@seal`], [`mod@open`], [`kem`] |
 //! | calls | [`calls`]: the public calls over lent slices, repeated at the root of the crate |
+//! | beside them | [`inputs`]: inputs of a certain kind, for tests and comparisons |
 //!
 //! # Short names
 //!
@@ -53,6 +54,7 @@
 pub mod bits;
 pub mod calls;
 pub mod field;
+pub mod inputs;
 pub mod kem;
 pub mod keys;
 pub mod mask;

@@ -12,11 +12,26 @@ use crate::sets::Set;
 /// # Panics
 /// If message and seed do not have k1 and k3 bytes.
 pub fn pad(set: &Set, message: &[u8], seed: &[u8], places: &[u16]) -> Vec<u8> {
+    pad_with_check(set, message, seed, places, |check| check)
+}
+
+/// As [`pad`], with the check bytes changed: what unpadding must notice. With `|check| check` it is [`pad`].
+///
+/// # Panics
+/// If message and seed do not have k1 and k3 bytes, or if the number of check bytes changes.
+pub fn pad_with_check(
+    set: &Set,
+    message: &[u8],
+    seed: &[u8],
+    places: &[u16],
+    change: impl FnOnce(Vec<u8>) -> Vec<u8>,
+) -> Vec<u8> {
     assert_eq!(message.len(), set.k1);
     assert_eq!(seed.len(), set.k3);
     let seed = force_bits(set, seed);
     let seed_and_places = [&seed[..], &from_numbers(places)].concat();
-    let check = check_bytes(set, message, &seed_and_places);
+    let check = change(check_bytes(set, message, &seed_and_places));
+    assert_eq!(check.len(), set.k2);
     let front = xor(
         &[message, &check].concat(),
         &mask::generate(&seed_and_places, set.k1 + set.k2),
@@ -109,6 +124,19 @@ mod tests {
         let front = xor(&[message, h1].concat(), &mask::generate(&re0, 34));
         assert_eq!(padded[..34], front);
         assert_eq!(padded[34..], xor(&seed, &mask::generate(&front, 4)));
+    }
+
+    #[test]
+    fn every_check_bit_is_compared() {
+        let set = &SETS[0];
+        let (message, seed, places) = example(set);
+        for bit in 0..32 {
+            let padded = pad_with_check(set, &message, &seed, &places, |mut check| {
+                check[bit / 8] ^= 1 << (bit % 8);
+                check
+            });
+            assert_eq!(unpad(set, &padded, &places), None);
+        }
     }
 
     #[test]

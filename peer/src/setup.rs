@@ -26,30 +26,10 @@ pub struct KeyPair {
 /// If there are not just as many random bytes as the set needs.
 pub fn generate(set: &'static Set, random: &[u8]) -> Result<KeyPair, Refusal> {
     let draw = Draw::new(set, random);
-    let multipliers = draw.multipliers().ok_or(Refusal::Multipliers)?;
-    let blocks = draw.blocks().ok_or(Refusal::Blocks)?;
-    let p1 = draw.p1();
-    let (window, p2) = draw.p2().ok_or(Refusal::Windows)?;
-    let scrambled = generator_matrix(set.n, set.k)
-        .scale_columns(&multipliers)
-        .permute_columns(&p1)
-        .join(&draw.random_columns())
-        .multiply_pairs(&blocks)
-        .permute_columns(&p2);
-    let ge = scrambled.systematic().ok_or(Refusal::Dependent)?;
-    let private = PrivateKey {
-        set,
-        inverse_p1: p1.inverse(),
-        inverse_p2: p2.inverse(),
-        columns: blocks.iter().map(|&block| first_column(inverse_block(block))).collect(),
-        inverses: multipliers.iter().map(|&multiplier| inv(multiplier)).collect(),
-        ge: ge.clone(),
-    };
-    Ok(KeyPair {
-        public: PublicKey { set, ge },
-        private,
-        window,
-    })
+    draw.multipliers().ok_or(Refusal::Multipliers)?;
+    draw.blocks().ok_or(Refusal::Blocks)?;
+    let (window, _) = draw.p2().ok_or(Refusal::Windows)?;
+    draw.pair(window)
 }
 
 /// The step of setup that refuses these random bytes, if one does.
@@ -136,6 +116,38 @@ impl<'a> Draw<'a> {
     /// The u of each window, for those who look for random bytes of a certain kind.
     pub fn window_counts(&self) -> [usize; WINDOWS] {
         std::array::from_fn(|p| mixed_places(self.set, &self.window(p)))
+    }
+
+    /// The key pair that window p gives, whatever its u; the refusals are 3, 4 and 6. Setup takes the first window that
+    /// fits; opening also takes keys of others.
+    ///
+    /// # Panics
+    /// If p is 5 or more.
+    pub fn pair(&self, p: usize) -> Result<KeyPair, Refusal> {
+        let set = self.set;
+        let multipliers = self.multipliers().ok_or(Refusal::Multipliers)?;
+        let blocks = self.blocks().ok_or(Refusal::Blocks)?;
+        let (p1, p2) = (self.p1(), self.window(p));
+        let scrambled = generator_matrix(set.n, set.k)
+            .scale_columns(&multipliers)
+            .permute_columns(&p1)
+            .join(&self.random_columns())
+            .multiply_pairs(&blocks)
+            .permute_columns(&p2);
+        let ge = scrambled.systematic().ok_or(Refusal::Dependent)?;
+        let private = PrivateKey {
+            set,
+            inverse_p1: p1.inverse(),
+            inverse_p2: p2.inverse(),
+            columns: blocks.iter().map(|&block| first_column(inverse_block(block))).collect(),
+            inverses: multipliers.iter().map(|&multiplier| inv(multiplier)).collect(),
+            ge: ge.clone(),
+        };
+        Ok(KeyPair {
+            public: PublicKey { set, ge },
+            private,
+            window: p,
+        })
     }
 }
 

@@ -24,7 +24,7 @@ fn the_answer_carries_the_first_fitting_window() {
     for p in 0..5 {
         let mut passed = 0;
         for _ in 0..10 {
-            let random = window_fits_first(p, &mut noise);
+            let random = window_fits_first(set6(), p, &mut noise);
             let counts = Draw::new(set6(), &random).window_counts();
             assert!(counts[..p].iter().all(|&u| u > 7));
             assert!(counts[p] <= 7);

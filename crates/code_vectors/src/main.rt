@@ -1,13 +1,10 @@
 // Decodes words that are some places away from a code word, and prints what comes out: a line for each, with the code's
 // n and t, the number of places struck, and the word, or that none is near.
 ghost use mathlib.Core.Path.{_≡_};
-ghost use mathlib.Core.Bool.{Bool, true, false};
 ghost use Prim.Native.Nat.{ℕ, _+_, _≤_, _<_};
 ghost use lib.ListN.{length, getD};
-ghost use Rattle.gf.specs.Field.{size};
-ghost use Rattle.gf.specs.Ten.{ten};
-ghost use Rattle.code_vectors.specs.Small.{AllSmall};
 use code::Decoded;
+use decoder::decoded;
 use libc::STDOUT_FILENO;
 
 // The next of a run of numbers that look random.
@@ -75,38 +72,6 @@ fn spoil(area: &mut [u16], n: usize, e: usize, seed: u32)
         strike(area, p, element(x));
         k += 1;
     }
-}
-
-// Whether each number is a field element.
-fn all_small(word: &[u16]) -> bool
-    ensures { λ r. ⌜ AllSmall (now (word .entry)) r ⌝ }
-{
-    let mut i = 0;
-    while i < word.len() {
-        if word[i] >= 1024 {
-            return false;
-        }
-        i += 1;
-    }
-    true
-}
-
-// Decodes a word if it is one, and the numbers are right.
-fn decoded(word: &mut [u16], t: usize, work: &mut [u16]) -> Decoded {
-    let n = word.len();
-    if n > 1023 {
-        return Decoded::None;
-    }
-    if t > n / 2 {
-        return Decoded::None;
-    }
-    if work.len() < t * (t + 1) + 6 * t + 3 * n + 1 {
-        return Decoded::None;
-    }
-    if all_small(word) {
-        return code::decode(word, t, work);
-    }
-    Decoded::None
 }
 
 // The numbers of a word, a blank before each.

@@ -1,9 +1,7 @@
-//! What the tests share: bytes that look random, and calls on buffers full of junk.
-#![allow(dead_code)] // Each test file uses its own part.
+//! What the tests share: calls on buffers full of junk, and inputs of a certain kind.
+#![allow(dead_code, unused_imports)] // Each test file uses its own part.
 
-use peer::bits::{bytes_for, pack, unpack};
-use peer::perm::Permutation;
-use peer::setup::Draw;
+pub use peer::inputs::{edit_elements, edit_private, window_fits_first, zero_block, Noise};
 use peer::{Set, SETS};
 
 /// Set 6, on which most tests run.
@@ -14,47 +12,6 @@ pub fn set6() -> &'static Set {
 /// Set 1.
 pub fn set1() -> &'static Set {
     &SETS[1]
-}
-
-/// Numbers that look random (SplitMix64), the same in every run.
-pub struct Noise(pub u64);
-
-impl Noise {
-    pub fn number(&mut self) -> u64 {
-        self.0 = self.0.wrapping_add(0x9E37_79B9_7F4A_7C15);
-        let mut mixed = self.0;
-        mixed = (mixed ^ mixed >> 30).wrapping_mul(0xBF58_476D_1CE4_E5B9);
-        mixed = (mixed ^ mixed >> 27).wrapping_mul(0x94D0_49BB_1331_11EB);
-        mixed ^ mixed >> 31
-    }
-
-    pub fn below(&mut self, bound: usize) -> usize {
-        (self.number() % bound as u64) as usize
-    }
-
-    pub fn bytes(&mut self, length: usize) -> Vec<u8> {
-        (0..length).map(|_| self.number() as u8).collect()
-    }
-
-    pub fn element(&mut self) -> u16 {
-        self.below(1024) as u16
-    }
-
-    pub fn unit(&mut self) -> u16 {
-        1 + self.below(1023) as u16
-    }
-
-    pub fn elements(&mut self, count: usize) -> Vec<u16> {
-        (0..count).map(|_| self.element()).collect()
-    }
-
-    /// Some of the places below a bound, rising.
-    pub fn places(&mut self, count: usize, bound: usize) -> Vec<u16> {
-        let numbers: Vec<u16> = (0..count).map(|_| self.number() as u16).collect();
-        let mut places = Permutation::shuffle(bound, &numbers).list()[..count].to_vec();
-        places.sort_unstable();
-        places
-    }
 }
 
 /// Runs a call on output buffers and a work area full of junk, twice with different junk; checks that it left them as
@@ -164,50 +121,7 @@ pub fn keys(set: &Set, noise: &mut Noise) -> [Vec<u8>; 2] {
     }
 }
 
-/// Changes the elements of setup's random bytes.
-pub fn edit_elements(set: &Set, random: &mut [u8], edit: impl FnOnce(&mut [u16])) {
-    let packed = &mut random[..bytes_for(set.setup_elements())];
-    let mut elements = unpack(packed);
-    edit(&mut elements);
-    packed.copy_from_slice(&pack(&elements));
-}
-
-/// Where the packed elements of a private key begin.
-pub fn packed_part(set: &Set) -> usize {
-    1 + 2 * set.n + 2 * set.scrambled()
-}
-
-/// Changes the elements of a private key: 2w of block columns, n inverses, then GE.
-pub fn edit_private(set: &Set, key: &mut [u8], edit: impl FnOnce(&mut [u16])) {
-    let packed = &mut key[packed_part(set)..];
-    let mut elements = unpack(packed);
-    edit(&mut elements);
-    packed.copy_from_slice(&pack(&elements));
-}
-
-/// Random bytes of set 6 whose first fitting window is p; none of the five fits if p is 5.
-///
-/// Chance alone rarely makes several windows fail, so this climbs: it changes one byte after the other and keeps
-/// changes that do not lower the counts u of the windows before p.
-pub fn window_fits_first(p: usize, noise: &mut Noise) -> Vec<u8> {
-    let set = set6();
-    let counts = |random: &[u8]| Draw::new(set, random).window_counts();
-    let height = |counts: &[usize; 5]| counts[..p].iter().map(|&u| u.min(set.u0 + 1)).sum::<usize>();
-    let mut random = noise.bytes(set.setup_random_bytes());
-    loop {
-        let before = counts(&random);
-        if before.iter().position(|&u| u <= set.u0).unwrap_or(5) == p {
-            return random;
-        }
-        let place = random.len() - 1 - noise.below(2 * set.scrambled() + 2);
-        let old = std::mem::replace(&mut random[place], noise.number() as u8);
-        if height(&counts(&random)) < height(&before) {
-            random[place] = old;
-        }
-    }
-}
-
 /// Random bytes of set 6 none of whose windows fits.
 pub fn no_window_fits(noise: &mut Noise) -> Vec<u8> {
-    window_fits_first(5, noise)
+    window_fits_first(set6(), 5, noise)
 }

@@ -1,0 +1,2 @@
+-- The laws of the tests before decoding.
+mod Laws

@@ -1,0 +1,2 @@
+-- What the calls around decoding ask of a word.
+pub mod Small
