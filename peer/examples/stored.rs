@@ -168,7 +168,7 @@ fn good_random(noise: &mut Noise) -> Vec<u8> {
 /// Random bytes of set 6 whose first fitting window is p, and that setup does not refuse.
 fn good_window(p: usize, noise: &mut Noise) -> Vec<u8> {
     loop {
-        let random = window_fits_first(p, noise);
+        let random = window_fits_first(set6(), p, noise);
         if refusing_step(set6(), &random).is_none() {
             return random;
         }
