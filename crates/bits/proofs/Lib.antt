@@ -4,5 +4,6 @@ pub mod Packing
 pub mod Keys
 pub mod Sixteen
 pub mod Windows
+mod Unpacking
 pub mod Answers
 pub mod Bench

@@ -3,11 +3,14 @@ use scheme::Answer;
 ghost use mathlib.Core.Path.{_≡_};
 ghost use Prim.Native.Nat.{_<_, _≤_};
 ghost use lib.ListN.{length};
+ghost use Rattle.scheme.specs.Answers.{numberOf};
 
 // Paper 01's number of an answer.
-pub fn number(a: Answer) -> u8 {
+pub fn number(a: Answer) -> u8
+    ensures { λ r. ⌜ r ≡ numberOf a ⌝ }
+{
     match a {
-        Answer::Done(count) => 0,
+        Answer::Done(_) => 0,
         Answer::UnknownSet => 1,
         Answer::WrongLength => 2,
         Answer::FewMultipliers => 3,
