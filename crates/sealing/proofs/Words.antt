@@ -2,7 +2,7 @@
 use mathlib.Core.Path.{_≡_, refl, sym, ap, ap₂, _∙_}
 use mathlib.Core.Logic.{_≢_, inl, inr}
 use mathlib.Core.List.{List, [], _∷_}
-use Prim.Native.Nat.{ℕ, suc, _+_, _-_, _*_, _≤_, _<_}
+use Prim.Native.Nat.{ℕ, suc, _+_, _-_, _*_, _^_, _≤_, _<_}
 use native.Mathlib.Nat.{zero-add, add-sub-cancel-left, mul-add, add-mul, zero-mul, mul-zero, mul-le-mul, mul-le-mul-left, mul-le-mul-right}
 use native.Mathlib.Numerals.{add-one}
 use native.Mathlib.Omega.{arith}
@@ -44,12 +44,12 @@ laid size k p w₀ w few room c z =
     }
 
 -- ---- a row
-pub row-ready : (m place k size : ℕ) (key w : List ℕ) → m ≤ 16 → k ≤ size → 4 * size ≤ length w → place + m * (size - k) ≤ 8 * length key
-    → (m ≤ 16) × (place + m * length (part size (size + (size - k) - size) w) ≤ 8 * length key)
-row-ready m place k size key w wide few room h =
+pub row-ready : (m place k size : ℕ) (key w : List ℕ) → m ≤ 16 → k ≤ size → 4 * size ≤ length w → place + m * (size - k) ≤ 8 * length key → place + m * (size - k) < 2 ^ 64
+    → (m ≤ 16) × (place + m * length (part size (size + (size - k) - size) w) ≤ 8 * length key) × (place + m * length (part size (size + (size - k) - size) w) < 2 ^ 64)
+row-ready m place k size key w wide few room h fits =
     let c : size + (size - k) - size ≡ size - k = add-sub-cancel-left size (size - k) in
     let n : length (part size (size + (size - k) - size) w) ≡ size - k = ap (λ (i : ℕ). length (part size i w)) c ∙ part-length size (size - k) w (omega arith) in
-    (wide, rw n h)
+    (wide, rw n h, rw n fits)
 
 pub row-is : (m place k size i : ℕ) (key p w w′ : List ℕ) → k ≤ size → 4 * size ≤ length w
     → p ≡ elementsAt (length (part size (size + (size - k) - size) w)) m key place
@@ -96,6 +96,9 @@ row-within m i k cols bits place h room at =
 pub row-small : (m i k cols place : ℕ) → i < k → m ≤ 16 → k ≤ 65536 → cols ≤ 65536 → place ≡ 8 + m * (i * cols) → place + m * cols ≤ 68719476744
 row-small m i k cols place h wide few₁ few₂ at =
     row-within m i k cols 68719476744 place h (omega (arith, mul-le-mul wide (mul-le-mul few₁ few₂))) at
+
+pub row-fits : (m i k size place : ℕ) → i < k → m ≤ 16 → k ≤ size → size ≤ 65536 → place ≡ 8 + m * (i * (size - k)) → place + m * (size - k) < 2 ^ 64
+row-fits m i k size place h wide few₁ few₂ at = omega (arith, row-small m i k (size - k) place h wide (omega arith) (omega arith) at)
 
 pub row-first : (m cols : ℕ) → 8 ≡ 8 + m * (0 * cols)
 row-first m cols = rw (zero-mul, mul-zero)

@@ -1,12 +1,12 @@
 // The word that is sent: the vector times [I, GE], with the error values added at their places.
 use crate::places::wide;
 use bits::pack;
-use bits::unpack_at;
 use gf::add_run;
 use lists::wipe_numbers;
+use reader::elements;
 use sets::Set;
 ghost use mathlib.Core.Path.{_≡_};
-ghost use Prim.Native.Nat.{ℕ, _+_, _-_, _*_, _<_, _≤_};
+ghost use Prim.Native.Nat.{ℕ, _+_, _-_, _*_, _<_, _≤_, _^_};
 ghost use lib.ListN.{length, getD};
 ghost use Rattle.lists.specs.Parts.{part, Wrote};
 ghost use Rattle.sets.specs.Valid.{Valid};
@@ -38,13 +38,13 @@ fn lay(work: &mut [u16], size: usize, k: usize)
     wipe_numbers(&mut work[k..size]);
 }
 
-// Row i of GE, which is read at a bit place of the key, times element i of the vector, added to the columns from k on.
+// Row i of GE, which a reader takes from a bit place of the key, times element i of the vector, added to the columns from k on.
 fn add_row(key: &[u8], m: usize, place: usize, work: &mut [u16], size: usize, k: usize, i: usize)
-    requires { ⌜ (m ≤ 16) × (place + m * (size - k) ≤ 8 * length (now key)) × (k ≤ size) × (i < size) × (4 * size ≤ length (now work)) ⌝ }
+    requires { ⌜ (m ≤ 16) × (place + m * (size - k) ≤ 8 * length (now key)) × (k ≤ size) × (i < size) × (4 * size ≤ length (now work)) × (place + m * (size - k) < 2 ^ 64) ⌝ }
     ensures { λ _. ⌜ now (work .exit) ≡ rowAdded m (now (key .entry)) place k size i (now (work .entry)) ⌝ }
 {
     let end = size + (size - k);
-    unpack_at(key, m, place, &mut work[size..end]);
+    elements(key, m, place, &mut work[size..end]);
     let f = work[3 * size + i];
     add_run(work, k, size, size - k, f);
 }

@@ -9,20 +9,20 @@ sub-end c = search needs
 add-end : tie.Need-add-end
 add-end c = search needs
 
-mul-unpack-at : tie.Need-mul-unpack-at
-mul-unpack-at c = search needs
+mul-elements : tie.Need-mul-elements
+mul-elements c = search needs
 
-sub-unpack-at : tie.Need-sub-unpack-at
-sub-unpack-at c = search needs
+sub-elements : tie.Need-sub-elements
+sub-elements c = search needs
 
-part-unpack-at-start : tie.Need-part-unpack-at-start
-part-unpack-at-start c = search needs
+part-elements-start : tie.Need-part-elements-start
+part-elements-start c = search needs
 
-part-unpack-at-end : tie.Need-part-unpack-at-end
-part-unpack-at-end c = search needs
+part-elements-end : tie.Need-part-elements-end
+part-elements-end c = search needs
 
-unpack-at-requires : tie.Need-unpack-at-requires
-unpack-at-requires c κs = let a = c .before .before .before .args in let p = c .before .before .before .pre in row-ready (a .m) (a .place) (a .k) (a .size) (a .key .now) (a .work .now) (p .0) (p .2) (p .4) (p .1)
+elements-requires : tie.Need-elements-requires
+elements-requires c κs = let a = c .before .before .before .args in let p = c .before .before .before .pre in row-ready (a .m) (a .place) (a .k) (a .size) (a .key .now) (a .work .now) (p .0) (p .2) (p .4) (p .1) (p .5)
 
 mul-f : tie.Need-mul-f
 mul-f c = search needs
@@ -54,11 +54,11 @@ add-row-spec =
     (tie.spec
     sub-end
     add-end
-    mul-unpack-at
-    sub-unpack-at
-    part-unpack-at-start
-    part-unpack-at-end
-    unpack-at-requires
+    mul-elements
+    sub-elements
+    part-elements-start
+    part-elements-end
+    elements-requires
     mul-f
     add-f
     mul-f-2

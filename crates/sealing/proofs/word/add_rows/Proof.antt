@@ -6,7 +6,7 @@ use native.Mathlib.Omega.{arith}
 use Rattle.lists.specs.Parts.{part}
 use Rattle.bits.specs.Bits.{elementsAt}
 use Rattle.sealing.specs.Steps.{Summed}
-use Rattle.sealing.proofs.Words.{step-small, row-first, row-within, row-small, row-next, summed-none, summed-more, summed-all}
+use Rattle.sealing.proofs.Words.{step-small, row-first, row-within, row-small, row-fits, row-next, summed-none, summed-more, summed-all}
 use Rattle.sealing.proofs.word.add_rows.Statement.{statement}
 use Rattle.sealing.proofs.word.add_rows.Tie as tie
 
@@ -26,7 +26,7 @@ loop-holds : tie.Need-loop-holds Inv-loop μ-loop
 loop-holds c = (search needs, search row-first, search summed-none)
 
 add-row-requires : tie.Need-add-row-requires Inv-loop μ-loop
-add-row-requires c κs = (search needs, search row-within, search needs, search needs, search needs)
+add-row-requires c κs = (search needs, search row-within, search needs, search needs, search needs, search row-fits)
 
 add-place : tie.Need-add-place Inv-loop μ-loop
 add-place c = let a = c .before .before .before .before .before .before .before .before .args in let p = c .before .before .before .before .before .before .before .before .pre in omega (arith, row-small (a .m) (c .before .before .before .before .before .loop .i) (a .k) (a .size - a .k) (c .before .before .before .before .before .loop .place) (omega arith) (omega arith) (omega arith) (omega arith) (omega arith))
