@@ -1,4 +1,6 @@
 // The way of a message, call after call: what demand 3 says of the calls' promises is here the contract of code that makes the calls.
+#![tactic(auto)]
+
 ghost use Rattle.std.specs.Prelude.{◌≡◌};
 ghost use Rattle.arrival.specs.Arrives.{Bytes, done_of, SealedThen, WrappedThen, SealedWay, WrappedWay};
 
@@ -8,7 +10,7 @@ use calls::founding::setup;
 use scheme::Answer;
 
 // How far a message came: no pair was made, it was not sealed, or it was opened, with the answer of the call that ended it.
-#[derive(Drop)]
+#[derive(Clone, Copy)]
 pub enum Way {
     NotMade(Answer),
     NotSealed(Answer),

@@ -3,13 +3,15 @@
 // digest where they are full), and the work area. scripts/stored-cases makes the cases and the expected output with another implementation.
 //
 // A case is a head of sixteen bytes, its label, and three inputs, some of them empty.
+#![tactic(auto)]
+
 ghost use Rattle.std.specs.Prelude.{◌≡◌, ◌<◌, length};
 
 use libc::{STDIN_FILENO, STDOUT_FILENO};
 use scheme::Answer;
 
 // The head of a case: the call, the set byte for setup, the number that 01 states, and the lengths of label, inputs and lent slices.
-#[derive(Drop)]
+#[derive(Clone, Copy)]
 struct Case {
     call: u8,
     byte: u8,

@@ -1,6 +1,8 @@
 // Bytes as a string of bits: elements of m bits read from it and written to it at any bit place, and 16-bit numbers.
 //
 // `pack_call` and `unpack_call` take any input. The functions they stand on, which the layers above use, say what they require.
+#![tactic(auto)]
+
 mod numbers;
 mod reading;
 mod writing;
@@ -14,7 +16,7 @@ pub use reading::{bits_at, tail_zero, unpack, unpack_at};
 pub use writing::{pack, small};
 
 // What a call answers; `number_of` gives paper 01's number of each.
-#[derive(Drop)]
+#[derive(Clone, Copy)]
 pub enum Answer {
     Done,
     Refused,

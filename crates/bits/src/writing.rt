@@ -30,7 +30,7 @@ fn byte_in(s: &[u16], m: usize, q: usize, r: usize) -> u8
 }
 
 // A bit within an element.
-#[derive(Drop)]
+#[derive(Clone, Copy)]
 struct Place {
     element: usize,
     bit: usize,

@@ -2,6 +2,8 @@
 //
 // A case is eight bytes (a kind, a width m, the input's length and the output's length, three bytes each) and the input. Its line
 // holds the kind, the answer's number and the output; of an output of more than a hundred entries, its `mix`.
+#![tactic(auto)]
+
 ghost use Rattle.std.specs.Prelude.{◌≡◌, ◌+◌, ◌<◌, ◌≤◌, ◌^◌, ◌/◌, length};
 ghost use Rattle.bits.specs.Answer.{number_of};
 

@@ -124,7 +124,7 @@ fn wrap_in(
     ensures { seal_end result cipher.new work.new ≡ after_seal s key.now random.now (secret_message s secret.now) cipher.old work.old }
 {
     wipe_bytes(message);
-    bytes::copy(secret, message);
+    lists::copy(secret, message);
     seal_checked(s, key, random, message, cipher, work)
 }
 

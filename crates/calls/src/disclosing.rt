@@ -99,7 +99,7 @@ fn hand_out(message: &[u8], secret: &mut [u8]) -> Answer
     ensures { HandedOut message.now secret.old result secret.new }
 {
     let len = secret.len();
-    bytes::copy(&message[0..len], secret);
+    lists::copy(&message[0..len], secret);
     Answer::Done(0)
 }
 

@@ -2,6 +2,8 @@
 //
 // Each makes the first checks, does its work, and wipes: the work area always, the outputs on a refusal. What each promises is
 // defined in the crate `scheme` (specs/Calls.antt).
+#![tactic(auto)]
+
 pub mod closing;
 pub mod disclosing;
 pub mod founding;

@@ -1,4 +1,6 @@
 // The Reed-Solomon code: decoding to the one code word within t places, and the generator.
+#![tactic(auto)]
+
 ghost use Rattle.std.specs.Prelude.{◌≡◌, ◌-◌, ◌<◌, length};
 ghost use Rattle.gf.specs.Ten.{ten};
 ghost use Rattle.code.specs.Decoding.{Lent, Decodes};
@@ -14,7 +16,7 @@ mod sums;
 mod values;
 
 // What decoding answers: the code word, or that none is near.
-#[derive(Drop)]
+#[derive(Clone, Copy)]
 pub enum Decoded {
     Word,
     None,

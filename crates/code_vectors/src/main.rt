@@ -1,5 +1,7 @@
 // Decodes words that are some places away from a code word, and prints what comes out: a line for each, with the code's
 // n and t, the number of places struck, and the word, or that none is near.
+#![tactic(auto)]
+
 ghost use Rattle.std.specs.Prelude.{◌≡◌, ℕ, ◌+◌, ◌≤◌, ◌<◌, length, get_or};
 
 use code::Decoded;

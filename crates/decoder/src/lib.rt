@@ -1,5 +1,7 @@
-// Decoding as a call that takes any slices: for the program that decodes stored words, and, through C, for the benchmark. No user of the library
+// Decoding as a call that takes any slices: for the program that decodes stored words, and, through `decoder_c`, for the benchmark. No user of the library
 // needs it: opening decodes in its own work area.
+#![tactic(auto)]
+
 ghost use Rattle.std.specs.Prelude.{◌≡◌};
 ghost use Rattle.decoder.specs.Small.{AllSmall};
 
@@ -35,13 +37,4 @@ pub fn decoded(word: &mut [u16], t: usize, work: &mut [u16]) -> Decoded {
         return code::decode(word, t, work);
     }
     Decoded::None
-}
-
-// The same for C: 1 where there is a word.
-#[unsafe(no_mangle)]
-pub extern "C" fn stanquivol_bench_decode(word: &mut [u16], t: usize, work: &mut [u16]) -> u8 {
-    let Decoded::Word = decoded(word, t, work) else {
-        return 0;
-    };
-    1
 }

@@ -1,4 +1,6 @@
 // What the programs `setup`, `seal` and `open` share: files that their arguments name, and the one line that they print.
+#![tactic(auto)]
+
 ghost use Rattle.std.specs.Prelude.{◌≡◌, ◌+◌, ◌≤◌, length};
 ghost use Rattle.scheme.specs.Answers.{number_of};
 
@@ -7,7 +9,7 @@ use scheme::Answer;
 
 // What reading a file comes to: whether it went well, and how many bytes of the file are at the start of the slice. If it did not go
 // well, standard error says why.
-#[derive(Drop)]
+#[derive(Clone, Copy)]
 pub struct Input {
     pub fine: bool,
     pub count: usize,

@@ -8,7 +8,7 @@ use crate::logs::log_at;
 use crate::pows::pow_at;
 
 // A call's yes, with its number, or no.
-#[derive(Drop)]
+#[derive(Clone, Copy)]
 pub enum Elem {
     Yes(u16),
     No,

@@ -1,6 +1,8 @@
 // The field GF(2^10) (01, Field and bits): elements are numbers below 1024, addition is exclusive or, α is 2.
 // For the layers above: functions on elements and kernels on runs of a lent slice, total on all numbers, with no table indexed by a value
 // but in `power`. For users: the field calls in `calls`, with their own yes or no.
+#![tactic(auto)]
+
 ghost use Rattle.std.specs.Prelude.{◌≡◌, ℕ, ◌+◌, ◌*◌, ◌%◌, ◌<◌, ◌≤◌, length};
 ghost use Rattle.gf.specs.Field.{size, times_x, mul, alpha, inverse};
 ghost use Rattle.gf.specs.Ten.{ten};

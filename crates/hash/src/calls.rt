@@ -5,7 +5,7 @@ ghost use Rattle.hash.specs.Answers.{number_of, Digested, Masked};
 use crate::hasher::{Hasher, digest};
 use crate::mask::fill_mask;
 
-#[derive(Drop)]
+#[derive(Clone, Copy)]
 pub enum Answer {
     Done,
     Refused,
@@ -19,7 +19,7 @@ pub fn sha512(message: &[u8], out: &mut [u8]) -> Answer
         return Answer::Refused;
     }
     let d = digest(message);
-    bytes::copy(&d, out);
+    lists::copy(&d, out);
     Answer::Done
 }
 

@@ -1,5 +1,7 @@
 // SHA-512 (FIPS 180-4) and the mask generator of document 001, section 7.4.
 // Other crates use `calls`, or, inside the library, `hasher` and `mask`.
+#![tactic(auto)]
+
 pub mod block;
 pub mod calls;
 pub mod constants;

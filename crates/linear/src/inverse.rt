@@ -6,7 +6,7 @@ ghost use Rattle.linear.specs.Inverse.{LeftHalf, identity, beside_row, beside, i
 use crate::eliminate;
 
 // Whether there is an inverse.
-#[derive(Drop)]
+#[derive(Clone, Copy)]
 pub enum Inverse {
     Found,
     Singular,

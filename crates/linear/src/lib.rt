@@ -1,5 +1,7 @@
 // Linear algebra over the field, on matrices that lie row after row in a lent slice: elimination, the inverse of a
 // square matrix, a vector of the kernel.
+#![tactic(auto)]
+
 ghost use Rattle.std.specs.Prelude.{◌≡◌, ◌+◌, ◌*◌, ◌<◌, ◌≤◌, length};
 ghost use Rattle.gf.specs.Ten.{ten};
 ghost use Rattle.linear.specs.Matrix.{Matrix, entry, swap_run};
@@ -137,7 +139,7 @@ fn reduce_column(m: &mut [u16], rows: usize, cols: usize, c: usize, p: usize) ->
 }
 
 // How many columns are done, and how many row operations it took.
-#[derive(Drop)]
+#[derive(Clone, Copy)]
 pub struct Outcome {
     pub cols: usize,
     pub ops: usize,

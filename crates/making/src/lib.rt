@@ -1,4 +1,6 @@
 // Key setup (01): from random bytes to a key pair, or to the refusal that ends it. `setup` of the crate `scheme` says what it makes.
+#![tactic(auto)]
+
 mod area;
 mod blocks;
 mod drawing;
@@ -15,7 +17,7 @@ ghost use Rattle.making.specs.Stages.{Given, Makes};
 use sets::Set;
 
 // What setup answers: a key pair with its count p + 1, or a refusal. The lent slices may hold anything after a refusal.
-#[derive(Drop)]
+#[derive(Clone, Copy)]
 pub enum Made {
     Pair(usize),
     FewMultipliers,

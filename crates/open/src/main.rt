@@ -1,6 +1,8 @@
 // open PRIVATE CIPHER MESSAGE: opens the 57 bytes of the file CIPHER with a private key of set 6.
 //
 // Prints `done`, with the message in the file MESSAGE, or `refused` and 01's number, with the file as it was.
+#![tactic(auto)]
+
 use lists::wipe_bytes;
 use scheme::Answer;
 

@@ -5,7 +5,7 @@ ghost use Rattle.opening.specs.Area.{decoding_at, vector_at, open_room, Runs};
 
 use sets::Set;
 
-#[derive(Drop)]
+#[derive(Clone, Copy)]
 pub struct Area {
     pub second: usize,
     pub first: usize,

@@ -2,6 +2,8 @@
 //
 // Small things, the lists and the columns of the key and the ciphertext's elements, are read straight from their bytes; everything that is
 // computed lives in the lent work area.
+#![tactic(auto)]
+
 ghost use Rattle.std.specs.Prelude.{◌≡◌, ◌+◌, ◌*◌, ◌≤◌, length};
 ghost use Rattle.opening.specs.Area.{Laid};
 ghost use Rattle.opening.specs.Stages.{Working};
@@ -30,7 +32,7 @@ mod sums;
 mod undo;
 
 // What opening answers.
-#[derive(Drop)]
+#[derive(Clone, Copy)]
 pub enum Opened {
     Message,
     Malformed,

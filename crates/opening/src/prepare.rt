@@ -13,7 +13,7 @@ use linear::inverse::Inverse;
 use sets::Set;
 
 // What preparing a key answers: it is malformed, W is singular, or all is ready, with u places to solve for.
-#[derive(Drop)]
+#[derive(Clone, Copy)]
 pub enum Prepared {
     Malformed,
     Singular,

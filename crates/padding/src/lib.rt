@@ -1,5 +1,7 @@
 // RLCEpad and RLCEpadDecode (document 001, section 7.13), in place on the padded string: message, check bytes, pad seed.
 // Each step lays the mask of one part over another, so that the steps of padding in reverse order take it off again.
+#![tactic(auto)]
+
 ghost use Rattle.std.specs.Prelude.{◌≡◌, ◌++◌, ◌+◌, ◌-◌, ◌^◌, ◌<◌, ◌≤◌, length, replicate};
 ghost use Rattle.sets.specs.Valid.{Valid};
 ghost use Rattle.scheme.specs.Padding.{lost_bits, cleared, padded};
@@ -66,8 +68,8 @@ fn lay(msg: &[u8], seed: &[u8], out: &mut [u8])
 {
     let at = out.len() - seed.len();
     wipe_bytes(out);
-    bytes::copy(msg, out);
-    bytes::copy(seed, &mut out[at..]);
+    lists::copy(msg, out);
+    lists::copy(seed, &mut out[at..]);
 }
 
 // Every bit that is set in some byte: zero where all bytes are, found without a look at where one is not.
@@ -121,7 +123,7 @@ pub fn pad(s: Set, msg: &[u8], seed: &[u8], e0: &[u8], out: &mut [u8])
 }
 
 // What unpadding answers.
-#[derive(Drop)]
+#[derive(Clone, Copy)]
 pub enum Unpadded {
     Message,
     Wrong,
@@ -142,6 +144,6 @@ pub fn unpad(s: Set, p: &mut [u8], e0: &[u8], msg: &mut [u8]) -> Unpadded
     if gathered(&p[k1..front]) != 0 {
         return Unpadded::Wrong;
     }
-    bytes::copy(&p[0..k1], msg);
+    lists::copy(&p[0..k1], msg);
     Unpadded::Message
 }

@@ -1,6 +1,8 @@
 // Permutations of places: the shuffle of document 001, 7.8, and the inverse of a permutation.
 //
 // `shuffle_call` and `invert_call` take any input. The functions they stand on, which the layers above use, say what they require.
+#![tactic(auto)]
+
 mod inverse;
 mod swaps;
 mod window;

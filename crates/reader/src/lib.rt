@@ -2,18 +2,20 @@
 //
 // Each function over the struct is thin: it takes the reader apart and calls a function on the bytes and the place. `element`
 // and `elements` have plain parameters and use a reader inside; whoever calls those two sees no reader.
+#![tactic(auto)]
+
 ghost use Rattle.std.specs.Prelude.{◌≡◌, ◌+◌, ◌*◌, ◌<◌, ◌≤◌, ◌^◌, length};
 ghost use Rattle.bits.specs.Bits.{bits_at, elements_at};
 ghost use Rattle.reader.specs.Places.{past};
 
-#[derive(Drop)]
+#[derive(Clone, Copy)]
 pub struct Reader<'a> {
     pub bytes: &'a [u8],
     pub bit: usize,
 }
 
 // An element, and the reader past it.
-#[derive(Drop)]
+#[derive(Clone, Copy)]
 pub struct Taken<'a> {
     pub value: u16,
     pub rest: Reader<'a>,

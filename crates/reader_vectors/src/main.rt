@@ -1,5 +1,7 @@
 // The elements of a stored byte string, for each width of 1 to 16 bits: a line of those that are read one after the other, to past
 // the last bit, and a line of nine that are read at once from bit 3 on, with the place after them.
+#![tactic(auto)]
+
 ghost use Rattle.std.specs.Prelude.{◌+◌, ◌*◌, ◌<◌, ◌≤◌, ◌^◌, length};
 
 use libc::STDOUT_FILENO;

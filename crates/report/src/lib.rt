@@ -1,4 +1,6 @@
 // What the program `sizes` does: lines in, a line of numbers or a refusal out.
+#![tactic(auto)]
+
 ghost use Rattle.std.specs.Prelude.{◌≡◌, List, [], ◌∷◌, ◌++◌, ℕ, ◌+◌, ◌<◌, ◌≤◌, length};
 ghost use Rattle.report.specs.Line.{hex_digit, set_of_digits, set_of_line, Keeps};
 
@@ -37,7 +39,7 @@ fn set_of_digits(a: u8, b: u8) -> Named
 }
 
 // What is kept of a line while it is read.
-#[derive(Drop)]
+#[derive(Clone, Copy)]
 pub struct Line {
     pub count: usize,
     pub first: u8,

@@ -3,6 +3,8 @@
 //
 // Prints `done` and the number of the block used, with the ciphertext in the file CIPHER, or `refused` and 01's number, with the file
 // as it was.
+#![tactic(auto)]
+
 use lists::wipe_bytes;
 use scheme::Answer;
 

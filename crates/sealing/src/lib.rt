@@ -1,5 +1,7 @@
 // Sealing (01, Padding, sealing, opening; document 001, 6.2): the ciphertext of a message of k1 bytes under a public key, by the first random
 // block that fits.
+#![tactic(auto)]
+
 ghost use Rattle.std.specs.Prelude.{◌≡◌, ◌*◌, ◌≤◌, length};
 ghost use Rattle.sets.specs.Valid.{Valid};
 ghost use Rattle.gf.specs.Field.{width};
@@ -16,7 +18,7 @@ mod places;
 mod word;
 
 // What sealing answers: the number of the block that it used, or that no block fits.
-#[derive(Drop)]
+#[derive(Clone, Copy)]
 pub enum Sealed {
     By(usize),
     Nowhere,

@@ -1,9 +1,11 @@
 // The sets of paper 01: their numbers by value, and the set that a set byte names.
+#![tactic(auto)]
+
 ghost use Rattle.std.specs.Prelude.{◌≡◌};
 ghost use Rattle.sets.specs.Table.{set_of, set6, set1};
 
 // A row of the table of sets, and the lengths that must match.
-#[derive(Drop)]
+#[derive(Clone, Copy)]
 pub struct Set {
     // the set byte, and the set's number
     pub byte: usize,
@@ -31,7 +33,7 @@ pub struct Set {
 }
 
 // The set that a set byte names, if there is one.
-#[derive(Drop)]
+#[derive(Clone, Copy)]
 pub enum Named {
     Known(Set),
     Unknown,

@@ -2,6 +2,8 @@
 //
 // Prints `done` and the number of windows tried, with the keys in the files PUBLIC and PRIVATE, or `refused` and 01's number, with
 // both files as they were.
+#![tactic(auto)]
+
 use lists::wipe_bytes;
 use scheme::Answer;
 

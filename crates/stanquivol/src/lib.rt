@@ -1,4 +1,6 @@
 // The C interface, thin over the proved calls: every function returns paper 01's answer number. include/stanquivol.h is its manual.
+#![tactic(auto)]
+
 ghost use Rattle.std.specs.Prelude.{◌≡◌, ◌<◌};
 ghost use Rattle.bits.specs.Answer.{number_of, Unpacked, Packed};
 ghost use Rattle.perm.specs.Answer.{Shuffled, Inverted};

@@ -1,4 +1,6 @@
 // What test programs share: a pattern of bytes to work on, and lines on standard output.
+#![tactic(auto)]
+
 use libc::STDOUT_FILENO;
 
 fn wide(x: u8) -> u64 {
