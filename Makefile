@@ -13,7 +13,7 @@ LINKED = STANQUIVOL_LIB=$(abspath $(dir $(LIBRARY)))
 
 demo:
 	@echo 'Proving the programs and all that they stand on (the first time some minutes) ..'
-	@log=$$(mktemp) && { rt check sizes setup seal open >$$log 2>&1 || { cat $$log; rm -f $$log; exit 1; }; } && rm -f $$log
+	@scripts/build-program sizes setup seal open
 	@echo 'The sets, as the program sizes prints them for the set bytes 16, 11 and 26:'
 	@printf '16\n11\n26\n' | scripts/run-program sizes
 	@scripts/demo
@@ -22,7 +22,6 @@ demo:
 # the Rust bindings and the installed library, with their examples; the programs on whole inputs and files; then the gate
 # itself, which starts from nothing.
 test:
-	rt fmt --check
 	scripts/field-tables --check
 	scripts/sha512-constants --check
 	scripts/bytes-vectors --check
@@ -37,10 +36,10 @@ test:
 	tests/c-interface
 	tests/rust-bindings
 	tests/install
-	rt check sizes setup seal open
+	scripts/build-program sizes setup seal open
 	tests/sizes
 	tests/programs
-	rt ci
+	scripts/gate
 
 native:
 	scripts/native-library stanquivol $(LIBRARY)
