@@ -1,0 +1,6 @@
+-- One part, from the empty message.
+use Rattle.std.proofs.Common.{[]}
+use Rattle.hash.proofs.hasher.digest.Goals as goal
+
+pub returns : goal.returns
+returns c = c.finish.ensures _ (c.update.ensures.by_index [] c.new.ensures.holds)
