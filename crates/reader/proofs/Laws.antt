@@ -1,6 +1,6 @@
 -- Reading element after element gives the elements that stand from the reader's place on: each step drops m bits more.
 use mathlib.Core.Path.{◌≡◌, refl, sym, ap}
-use mathlib.Core.List.{List, [], ◌∷◌}
+use mathlib.Core.List.{List, ◌∷◌}
 use Prim.Native.Nat.{ℕ, zero, suc, ◌+◌}
 use lib.Seq.{drop-drop}
 use Rattle.bits.specs.Bits.{bits, bits_at, grouped, elements_at}

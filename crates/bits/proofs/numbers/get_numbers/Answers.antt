@@ -1,4 +1,4 @@
-use Rattle.std.proofs.Common.{◌-◌, rules}
+use Rattle.std.proofs.Common.{rules}
 use Rattle.bits.specs.Numbers.{numbers16}
 use Rattle.lists.proofs.Tables.{tab-none, tab-more, tab-done}
 use Rattle.bits.proofs.numbers.get_numbers.Goals as goal

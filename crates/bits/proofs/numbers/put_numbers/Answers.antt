@@ -1,4 +1,4 @@
-use Rattle.std.proofs.Common.{◌∙◌, ◌-◌, rules}
+use Rattle.std.proofs.Common.{◌∙◌, rules}
 use Rattle.bits.proofs.Sixteen.{bytes16-none, bytes16-more}
 use Rattle.bits.proofs.numbers.put_numbers.Goals as goal
 

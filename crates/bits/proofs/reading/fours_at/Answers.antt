@@ -1,4 +1,4 @@
-use Rattle.std.proofs.Common.{◌-◌, arith}
+use Rattle.std.proofs.Common.{arith}
 use Rattle.bits.proofs.Unpacking.{begun-none, begun-four}
 use Rattle.bits.proofs.reading.fours_at.Goals as goal
 

@@ -1,4 +1,4 @@
-use Rattle.std.proofs.Common.{◌∙◌, sym, ap, ◌-◌, mul-add, arith, rules, length}
+use Rattle.std.proofs.Common.{◌∙◌, sym, ap, mul-add, arith, rules, length}
 use Rattle.bits.proofs.Packing.{elements_at-tab}
 use Rattle.bits.specs.Bits.{bits_at}
 use Rattle.lists.proofs.Tables.{tab-more, tab-done}

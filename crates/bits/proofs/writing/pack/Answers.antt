@@ -1,4 +1,4 @@
-use Rattle.std.proofs.Common.{◌∙◌, sym, ap, ℕ, ◌-◌, rules, drop}
+use Rattle.std.proofs.Common.{◌∙◌, sym, ap, ℕ, rules, drop}
 use Rattle.bits.proofs.Packing.{packed-tab}
 use Rattle.bits.specs.Bits.{bits, value}
 use Rattle.lists.proofs.Tables.{tab-none, tab-more, tab-done}

@@ -1,4 +1,4 @@
-use Rattle.std.proofs.Common.{◌-◌, rules}
+use Rattle.std.proofs.Common.{rules}
 use Rattle.bits.proofs.Windows.{small_all}
 use Rattle.bits.proofs.writing.small.Goals as goal
 

@@ -1,4 +1,4 @@
-use Rattle.std.proofs.Common.{◌+◌, ◌-◌, refl, arith}
+use Rattle.std.proofs.Common.{◌+◌, refl, arith}
 use Rattle.hash.proofs.Schedule.{loaded}
 use Rattle.hash.specs.Sha.{schedule}
 use Rattle.hash.proofs.block.begun.Goals as goal

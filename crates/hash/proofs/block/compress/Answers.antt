@@ -1,4 +1,4 @@
-use Rattle.std.proofs.Common.{◌≡◌, ◌-◌, refl, arith}
+use Rattle.std.proofs.Common.{◌≡◌, refl, arith}
 use Rattle.hash.proofs.Schedule.{word-is, rounds-step}
 use Rattle.hash.specs.Sha.{schedule, rounds, compress}
 use Rattle.hash.proofs.block.compress.Goals as goal

@@ -1,4 +1,4 @@
-use Rattle.std.proofs.Common.{◌+◌, ◌-◌, ◌<◌, length, add-one, arith}
+use Rattle.std.proofs.Common.{◌+◌, ◌<◌, length, add-one, arith}
 use lib.Seq.{paste-suc}
 use Rattle.hash.proofs.hasher.fill.Goals as goal
 

@@ -1,4 +1,4 @@
-use Rattle.std.proofs.Common.{◌-◌, below_more, rules}
+use Rattle.std.proofs.Common.{below_more, rules}
 use Rattle.bits.proofs.Windows.{decided-yes}
 use Rattle.perm.proofs.Windows.{once-perm}
 use Rattle.perm.specs.Perm.{Places}

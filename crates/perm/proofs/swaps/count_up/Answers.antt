@@ -1,4 +1,4 @@
-use Rattle.std.proofs.Common.{◌-◌, rules}
+use Rattle.std.proofs.Common.{rules}
 use Rattle.lists.proofs.Tables.{tab-none, tab-more, tab-done}
 use Rattle.perm.specs.Shuffle.{identity}
 use Rattle.perm.proofs.swaps.count_up.Goals as goal

@@ -1,4 +1,4 @@
-use Rattle.std.proofs.Common.{◌∙◌, ◌-◌, rules}
+use Rattle.std.proofs.Common.{◌∙◌, rules}
 use Rattle.lists.proofs.Loops.{turns-none, turns_more, turns-end}
 use Rattle.perm.specs.Shuffle.{shuffled}
 use Rattle.perm.proofs.swaps.shuffle.Goals as goal

@@ -1,4 +1,4 @@
-use Rattle.std.proofs.Common.{◌≡◌, ◌∙◌, ap, ℕ, ◌-◌, rules, get_or}
+use Rattle.std.proofs.Common.{◌≡◌, ◌∙◌, ap, ℕ, rules, get_or}
 use Rattle.lists.proofs.Loops.{turns-none, turns_more, turns-end}
 use Rattle.perm.specs.Window.{slot_of, written}
 use Rattle.perm.proofs.window.write_in.Goals as goal

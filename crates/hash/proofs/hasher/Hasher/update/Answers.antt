@@ -1,5 +1,5 @@
 -- The part ends within the block that is begun (`few`), or completes it (`many`).
-use Rattle.std.proofs.Common.{◌-◌, refl}
+use Rattle.std.proofs.Common.{refl}
 use Rattle.hash.proofs.Update.{few, many}
 use Rattle.hash.proofs.hasher.Hasher.update.Goals as goal
 
@@ -10,5 +10,8 @@ returns-then-s-k c =
 
 pub returns : goal.returns
 returns c =
-    let a = c.args in record { len_value = refl; by_index = many a.self.state a.self.rest a.self.len a.s.now c.if-s-k.false c.fill-first.ensures c.compress-after.ensures c.tail-t.ensures
-          c.blocks-last.ensures c.tail.ensures c.fill-more-2.ensures }
+    let a = c.args in record {
+      len_value = refl;
+      by_index = many a.self.state a.self.rest a.self.len a.s.now c.if-s-k.false c.fill-first.ensures c.compress-after.ensures c.tail-t.ensures
+          c.blocks-last.ensures c.tail.ensures c.fill-more-2.ensures;
+    }
