@@ -1,7 +1,6 @@
 -- How decoding ends: the word is judged by its power sums; one that was corrected at the places found is near, and it is the only one
 -- that can be a code word near the word before.
 use mathlib.Core.Path.{◌≡◌, refl, sym, ap, ◌∙◌}
-use mathlib.Core.Logic.{◌≢◌}
 use mathlib.Core.Bool.{Bool, true, false}
 use mathlib.Core.List.{List}
 use Prim.Native.Nat.{ℕ, zero, suc, ◌+◌, ◌≤◌, ◌<◌}

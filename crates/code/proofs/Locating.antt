@@ -19,14 +19,14 @@ use Rattle.theory.proofs.Weight.{wt-places}
 use Rattle.theory.proofs.Poly.{few-roots}
 use Rattle.theory.proofs.Steps.{ker-agree}
 use Rattle.theory.proofs.Decode.{no-error}
-use Rattle.gf.specs.Field.{Modulus, size, order, alpha}
+use Rattle.gf.specs.Field.{Modulus, size, alpha}
 use Rattle.gf.proofs.Cyclic.{Cyclic}
 use Rattle.gf.proofs.Elements.{El, el, plus, el-injective, alpha-points}
 use Rattle.linear.specs.Matrix.{Matrix, entry}
 use Rattle.linear.specs.Kernel.{kernel_vector}
 use Rattle.linear.proofs.View.{view}
 use Rattle.linear.proofs.Vector.{vector-kernel, vector-nonzero, vector-small}
-use Rattle.code.specs.Words.{sum_of, power_sum, apart}
+use Rattle.code.specs.Words.{sum_of, power_sum}
 use Rattle.code.specs.Decoding.{Near}
 use Rattle.code.specs.Area.{word_at, sums_at, locator_at, values_at, points_at, places_at}
 use Rattle.code.specs.Stages.{Rows, Solved, Summed, Collected, Ready, Placed, SameWord}

@@ -19,7 +19,7 @@ use Rattle.theory.proofs.Sum.{sum-ext}
 use Rattle.theory.proofs.Weight.{wt-max}
 use Rattle.theory.proofs.Distance.{vandermonde, points-at, syn-received}
 use Rattle.theory.proofs.Decode.{values}
-use Rattle.gf.specs.Field.{Modulus, width, size, order, ◌⊕◌, mul, alpha}
+use Rattle.gf.specs.Field.{Modulus, width, size, ◌⊕◌, mul, alpha}
 use Rattle.gf.proofs.Xor.{add-lt}
 use Rattle.gf.proofs.Ring.{alpha-lt}
 use Rattle.gf.proofs.Cyclic.{Cyclic}
@@ -30,7 +30,7 @@ use Rattle.linear.specs.Kernel.{kernel_vector}
 use Rattle.linear.proofs.View.{view}
 use Rattle.linear.proofs.Laws.{right-full}
 use Rattle.linear.proofs.Vector.{vector-solves, vector-small}
-use Rattle.code.specs.Words.{sum_of, power_sum, apart}
+use Rattle.code.specs.Words.{sum_of, power_sum}
 use Rattle.code.specs.Decoding.{Near}
 use Rattle.code.specs.Area.{word_at, sums_at, locator_at, values_at, points_at, places_at}
 use Rattle.lists.specs.Parts.{Wrote}

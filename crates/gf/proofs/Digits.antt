@@ -1,14 +1,14 @@
 -- The sum of the multiples that a number's digits ask for is the product: digit i asks for the factor times x ^ i.
-use mathlib.Core.Path.{◌≡◌, refl, sym, ap, ap₂, ◌∙◌}
-use mathlib.Core.List.{List, [], ◌∷◌}
-use Prim.Native.Nat.{ℕ, zero, suc, ◌+◌, ◌*◌, ◌/◌, ◌%◌, ◌≤◌, ◌<◌}
+use mathlib.Core.Path.{◌≡◌, sym, ap, ap₂, ◌∙◌}
+use mathlib.Core.List.{List}
+use Prim.Native.Nat.{ℕ, zero, suc, ◌+◌, ◌*◌, ◌/◌, ◌%◌, ◌<◌}
 use native.Mathlib.Nat.{le_of_suc-le-suc, not-suc-le-zero, add-zero, zero-add, add-suc, suc-add, zero-lt-suc}
 use native.Mathlib.Omega.{arith}
 use lib.ListN.{get_or}
 use Rattle.gf.specs.Field.{Modulus, width, size, ◌⊕◌, times_x, shift, act, mul}
 use Rattle.gf.specs.Digits.{multiples}
 use Rattle.gf.proofs.Xor.{zero_right}
-use Rattle.gf.proofs.Ring.{shift_zero, shift_in, mul_comm, mul-lt}
+use Rattle.gf.proofs.Ring.{shift_zero, shift_in, mul_comm}
 
 -- the sum of the elements of t, from i on and k after it, whose digit of a is set, as the code computes it
 unfoldable pub combined : ℕ → ℕ → List ℕ → ℕ → ℕ

@@ -1,6 +1,6 @@
 -- The elements of a modulus that is `Cyclic` are a field in the sense of the crate `theory`, and `el` takes the numbers that the code computes with there.
 -- No law of `el` but the last two asks for a bound, since sums, products and powers of numbers past the field are those of their m low digits.
-use mathlib.Core.Path.{◌≡◌, refl, sym, ap, ap₂, ◌∙◌}
+use mathlib.Core.Path.{◌≡◌, refl, sym, ap, ◌∙◌}
 use mathlib.Core.Logic.{◌≢◌}
 use mathlib.Core.HLevel.{Σ_prop_path, Σ_prop_discrete}
 use Prim.Native.Nat.{ℕ, zero, suc, ◌%◌, ◌≤◌, ◌<◌}

@@ -1,12 +1,11 @@
 -- What the runs leave at each place, as users of the kernels need it: turn i stores at its own place, and no later turn stores there.
-use mathlib.Core.Path.{◌≡◌, refl, sym, ap, ap₂, ◌∙◌}
+use mathlib.Core.Path.{◌≡◌, ap, ap₂, ◌∙◌}
 use mathlib.Core.Logic.{◌⊎◌, inl, inr}
 use mathlib.Core.List.{List}
 use Prim.Native.Nat.{ℕ, ◌+◌, ◌≤◌, ◌<◌}
 use native.Mathlib.Nat.{le_refl}
 use native.Mathlib.Omega.{arith}
 use lib.ListN.{length, get_or}
-use Rattle.lists.specs.Loops.{turns}
 use Rattle.gf.specs.Field.{Modulus, width, size, ◌⊕◌, mul}
 use Rattle.gf.specs.Runs.{add_run, scale_run, mul_run}
 use Rattle.gf.proofs.Xor.{add-lt}

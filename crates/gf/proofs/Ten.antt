@@ -1,8 +1,6 @@
 -- GF(2^10) is a field: the test of its modulus, computed by antt.
-use mathlib.Core.Path.{◌≡◌}
-use Prim.Native.Nat.{ℕ}
 use lib.Dec.{T}
-use Rattle.gf.specs.Field.{◌⊕◌, times_x}
+use Rattle.gf.specs.Field.{times_x}
 use Rattle.gf.specs.Ten.{ten}
 use Rattle.gf.proofs.Cyclic.{Cyclic}
 use Rattle.gf.proofs.Test.{test, walk, all, find, child, put, powers, logs, power_tree, log_tree, cyclic}

@@ -1,6 +1,6 @@
 -- One test, computed by antt, shows of a modulus that it is `Cyclic`: the powers of α are all the numbers from 1 up to 2 ^ m - 1, each once.
 -- It looks into two trees: the powers by place, and the places by power. What the trees have is tested, so nothing is proved of how they are made.
-use mathlib.Core.Path.{◌≡◌, refl, sym, ap, ◌∙◌, subst}
+use mathlib.Core.Path.{◌≡◌, sym, ap, ◌∙◌, subst}
 use mathlib.Core.Bool.{Bool, true, false, ◌&&◌, ◌||◌}
 use Prim.Native.Nat.{ℕ, zero, suc, ◌+◌, ◌/◌, ◌%◌, ◌<◌}
 use native.Mathlib.Nat.{le_of_suc-le-suc, not-suc-le-zero, add-zero, zero-add, add-suc, suc-add}

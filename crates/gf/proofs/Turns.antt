@@ -1,9 +1,8 @@
 -- Laws of the runs, for the loops that compute them: one more element, from what the loop's turn has stored.
-use mathlib.Core.Path.{◌≡◌, refl, ◌∙◌}
+use mathlib.Core.Path.{◌≡◌}
 use mathlib.Core.List.{List}
 use Prim.Native.Nat.{ℕ, ◌+◌, ◌≤◌}
 use lib.ListN.{get_or, set}
-use Rattle.lists.specs.Loops.{turns}
 use Rattle.lists.proofs.Loops.{turns-none, turns_more, turns-end}
 use Rattle.gf.specs.Field.{Modulus, ◌⊕◌, mul}
 use Rattle.gf.specs.Runs.{add_at, add_run, scale_at, scale_run, mul_at, mul_run}

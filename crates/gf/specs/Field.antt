@@ -1,7 +1,7 @@
 -- The field of 2 ^ m elements: polynomials over the two numbers 0 and 1, modulo x ^ m + low.
 -- An element is a number below 2 ^ m, whose binary digit i is the coefficient of x ^ i (01, Field and bits).
 -- The set's m is `width`; m is written suc k where a definition counts down.
-use Rattle.std.specs.Prelude.{ℕ, zero, suc, ◌+◌, ◌-◌, ◌*◌, ◌/◌, ◌%◌, ◌^◌, ◌<◌, ◌≡◌}
+use Rattle.std.specs.Prelude.{ℕ, zero, suc, ◌-◌, ◌*◌, ◌/◌, ◌%◌, ◌^◌, ◌<◌, ◌≡◌}
 use Rattle.std.specs.Int.Bits.{bit_xor}
 
 infixl 65 ◌⊕◌

@@ -1,7 +1,7 @@
 -- Demand 3 for every good pair: undoing takes words of [I, GE] to code words and adds no weight, so these words are as far apart as code
 -- words are; and the vector is read back from the code word.
 use mathlib.Core.Path.{◌≡◌, sym, ◌∙◌}
-use Prim.Native.Nat.{ℕ, ◌+◌, ◌-◌, ◌≤◌, ◌<◌}
+use Prim.Native.Nat.{ℕ, ◌+◌, ◌≤◌, ◌<◌}
 use native.Mathlib.Omega.{arith}
 use Rattle.theory.specs.Field.{Field}
 use Rattle.theory.specs.Word.{IsZero, wt}

@@ -5,7 +5,7 @@ use Prim.Native.Nat.{ℕ, zero, suc, ◌+◌, ◌-◌, ◌≤◌, ◌<◌}
 use native.Mathlib.Omega.{arith}
 use native.Mathlib.Decide.{dec_le}
 use Rattle.theory.specs.Field.{Field}
-use Rattle.theory.specs.Word.{Places, IsZero, sum, pow, wt}
+use Rattle.theory.specs.Word.{Places, IsZero, pow, wt}
 use Rattle.theory.specs.Code.{Points, syn, IsCode}
 use Rattle.theory.specs.Matrix.{Linear, Narrow}
 use Rattle.theory.proofs.Field.{ring, add-zero, zero-add, add-self, mul-zero, mul_comm, mul_assoc, zero-mul, mul-cancel, add-ne-zero, eq-of-add}

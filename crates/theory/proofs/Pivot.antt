@@ -1,7 +1,7 @@
 -- One column of an elimination, step by step: bring the pivot's row up, divide it, clear the column row by row; the unit columns grow by one.
 use mathlib.Core.Path.{◌≡◌, refl, sym, ◌∙◌}
 use mathlib.Core.Logic.{◌≢◌}
-use Prim.Native.Nat.{ℕ, zero, suc, ◌≤◌, ◌<◌}
+use Prim.Native.Nat.{ℕ, suc, ◌≤◌, ◌<◌}
 use native.Mathlib.Omega.{arith}
 use Rattle.theory.specs.Field.{Field}
 use Rattle.theory.specs.Matrix.{swap, Mat, add_row, scale_row, Agree, UnitBelow}

@@ -5,7 +5,7 @@ use Prim.Native.Nat.{ℕ, zero, suc, ◌+◌, ◌≤◌, ◌<◌}
 use native.Mathlib.Omega.{arith}
 use native.Mathlib.Decide.{dec_le}
 use Rattle.theory.specs.Field.{Field}
-use Rattle.theory.specs.Word.{IsZero, NonZero, sum, pow, wt}
+use Rattle.theory.specs.Word.{IsZero, NonZero, pow, wt}
 use Rattle.theory.specs.Code.{Points, syn, ev, tail}
 use Rattle.theory.proofs.Field.{ring, add-zero, zero-add, mul-zero, mul-one, zero-mul, mul-cancel, add-ne-zero}
 use Rattle.theory.proofs.Sum.{sum-suc, sum-nil, sum-ext, sum-zero, sum-add, sum-mul, sum_first, sum-append}

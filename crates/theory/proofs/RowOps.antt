@@ -1,7 +1,7 @@
 -- One row operation: its entries, its undoing, and the combination x·M as a combination of the rows before it.
 use mathlib.Core.Path.{◌≡◌, refl, sym, ap, ◌∙◌}
 use mathlib.Core.Logic.{◌≢◌}
-use Prim.Native.Nat.{ℕ, zero, ◌<◌}
+use Prim.Native.Nat.{ℕ, ◌<◌}
 use Rattle.theory.specs.Field.{Field}
 use Rattle.theory.specs.Word.{put, IsZero, sum}
 use Rattle.theory.specs.Matrix.{swap, Row, Mat, add_row, scale_row, Agree, comb}

@@ -1,5 +1,5 @@
 -- Matrices: functions from a row's number to the row, looked at below r rows and m columns. Row operations and what they are judged by.
-use Rattle.std.specs.Prelude.{◌≡◌, ◌≢◌, ℕ, zero, ◌≤◌, ◌<◌}
+use Rattle.std.specs.Prelude.{◌≡◌, ◌≢◌, ℕ, ◌≤◌, ◌<◌}
 use Rattle.std.proofs.Math.Decide.{dec_lt}
 use Rattle.theory.specs.Field.{Field}
 use Rattle.theory.specs.Word.{pick, put, sum}

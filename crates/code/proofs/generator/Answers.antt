@@ -1,4 +1,4 @@
-use Rattle.std.proofs.Common.{refl, ◌-◌, length-set, rules}
+use Rattle.std.proofs.Common.{refl, length-set, rules}
 use Rattle.code.proofs.Coefficients.{holds-one, holds_more, holds-end}
 use Rattle.code.proofs.generator.Goals as goal
 

@@ -1,4 +1,4 @@
-use Rattle.std.proofs.Common.{◌-◌, rules}
+use Rattle.std.proofs.Common.{rules}
 use Rattle.gf.proofs.Turns.{add_none, add-more}
 use Rattle.gf.proofs.add_run.Goals as goal
 

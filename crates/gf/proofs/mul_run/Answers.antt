@@ -1,4 +1,4 @@
-use Rattle.std.proofs.Common.{◌-◌, rules}
+use Rattle.std.proofs.Common.{rules}
 use Rattle.gf.proofs.Turns.{mul-none, mul-more}
 use Rattle.gf.proofs.mul_run.Goals as goal
 

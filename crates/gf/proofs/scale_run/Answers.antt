@@ -1,4 +1,4 @@
-use Rattle.std.proofs.Common.{◌-◌, rules}
+use Rattle.std.proofs.Common.{rules}
 use Rattle.gf.proofs.Turns.{scale-none, scale-more}
 use Rattle.gf.proofs.scale_run.Goals as goal
 

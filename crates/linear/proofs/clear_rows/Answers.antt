@@ -1,4 +1,4 @@
-use Rattle.std.proofs.Common.{◌-◌, rules}
+use Rattle.std.proofs.Common.{rules}
 use Rattle.linear.proofs.Clearing.{rows_more}
 use Rattle.linear.proofs.clear_rows.Goals as goal
 

@@ -1,4 +1,4 @@
-use Rattle.std.proofs.Common.{◌-◌, rules}
+use Rattle.std.proofs.Common.{rules}
 use Rattle.linear.proofs.Keeps.{reduced-more}
 use Rattle.linear.proofs.Steps.{elim-again, elim-stop, elim-end}
 use Rattle.linear.specs.Elimination.{eliminated}

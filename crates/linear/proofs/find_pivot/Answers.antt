@@ -1,4 +1,4 @@
-use Rattle.std.proofs.Common.{◌-◌, rules}
+use Rattle.std.proofs.Common.{rules}
 use Rattle.linear.proofs.Steps.{usable-true, usable-false}
 use Rattle.linear.specs.Elimination.{pivot_row}
 use Rattle.lists.proofs.Loops.{first-again, first_found, first-nowhere}

@@ -1,4 +1,4 @@
-use Rattle.std.proofs.Common.{◌-◌, length-set, rules}
+use Rattle.std.proofs.Common.{length-set, rules}
 use Rattle.linear.proofs.Steps.{swap-more}
 use Rattle.linear.specs.Matrix.{swap_run}
 use Rattle.lists.proofs.Loops.{turns-none, turns-end}

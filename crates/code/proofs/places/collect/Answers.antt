@@ -1,4 +1,4 @@
-use Rattle.std.proofs.Common.{◌-◌, rules}
+use Rattle.std.proofs.Common.{rules}
 use Rattle.code.proofs.Collecting.{kept-few, collected-more}
 use Rattle.code.proofs.places.collect.Goals as goal
 

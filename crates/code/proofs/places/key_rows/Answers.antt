@@ -1,4 +1,4 @@
-use Rattle.std.proofs.Common.{◌-◌, rules}
+use Rattle.std.proofs.Common.{rules}
 use Rattle.code.proofs.Matrices.{key_more}
 use Rattle.code.proofs.places.key_rows.Goals as goal
 

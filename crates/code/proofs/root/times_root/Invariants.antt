@@ -1,5 +1,5 @@
 -- The coefficients past j are done, the others as they were.
-use Rattle.std.proofs.Common.{◌≡◌, ◌-◌, ◌<◌, length}
+use Rattle.std.proofs.Common.{◌≡◌, ◌<◌, length}
 use Rattle.code.proofs.Coefficients.{Passed}
 use Rattle.gf.specs.Ten.{ten}
 use Rattle.code.proofs.root.times_root.Given as goal

@@ -1,4 +1,4 @@
-use Rattle.std.proofs.Common.{◌-◌, rules}
+use Rattle.std.proofs.Common.{rules}
 use Rattle.lists.proofs.Tables.{tab-none, tab-more}
 use Rattle.code.proofs.runs.copy_out.Goals as goal
 

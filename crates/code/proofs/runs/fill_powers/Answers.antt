@@ -1,4 +1,4 @@
-use Rattle.std.proofs.Common.{◌-◌, rules}
+use Rattle.std.proofs.Common.{rules}
 use Rattle.code.proofs.Powers.{alpha-next}
 use Rattle.lists.proofs.Writing.{wrote-more}
 use Rattle.code.proofs.runs.fill_powers.Goals as goal

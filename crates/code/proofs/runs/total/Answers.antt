@@ -1,4 +1,4 @@
-use Rattle.std.proofs.Common.{◌-◌, rules}
+use Rattle.std.proofs.Common.{rules}
 use Rattle.code.proofs.Settling.{total-none, total-more}
 use Rattle.code.proofs.runs.total.Goals as goal
 

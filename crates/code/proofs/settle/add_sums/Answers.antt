@@ -1,4 +1,4 @@
-use Rattle.std.proofs.Common.{◌-◌, rules}
+use Rattle.std.proofs.Common.{rules}
 use Rattle.code.proofs.Settling.{sums_none, sums-more}
 use Rattle.code.proofs.settle.add_sums.Goals as goal
 

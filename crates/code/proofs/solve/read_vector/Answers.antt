@@ -1,4 +1,4 @@
-use Rattle.std.proofs.Common.{◌-◌, rules}
+use Rattle.std.proofs.Common.{rules}
 use Rattle.code.proofs.Matrices.{read_more}
 use Rattle.lists.proofs.Writing.{wrote-more}
 use Rattle.code.proofs.solve.read_vector.Goals as goal

@@ -1,4 +1,4 @@
-use Rattle.std.proofs.Common.{◌-◌, rules}
+use Rattle.std.proofs.Common.{rules}
 use Rattle.code.proofs.Horner.{summed-none, summed-more, summed-end}
 use Rattle.code.proofs.sums.power_sums.Goals as goal
 

@@ -1,4 +1,4 @@
-use Rattle.std.proofs.Common.{◌-◌, rules}
+use Rattle.std.proofs.Common.{rules}
 use Rattle.code.proofs.Correcting.{added_more}
 use Rattle.code.proofs.values.add_values.Goals as goal
 

@@ -1,4 +1,4 @@
-use Rattle.std.proofs.Common.{◌-◌, rules}
+use Rattle.std.proofs.Common.{rules}
 use Rattle.code.proofs.Correcting.{power-rows-more}
 use Rattle.code.proofs.values.power_rows.Goals as goal
 

@@ -1,4 +1,4 @@
-use Rattle.std.proofs.Common.{◌-◌, rules}
+use Rattle.std.proofs.Common.{rules}
 use Rattle.linear.proofs.Beside.{beside-more}
 use Rattle.linear.specs.Inverse.{beside}
 use Rattle.lists.proofs.Loops.{turns-none, turns-end}

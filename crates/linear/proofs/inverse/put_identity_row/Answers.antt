@@ -1,4 +1,4 @@
-use Rattle.std.proofs.Common.{◌-◌, rules}
+use Rattle.std.proofs.Common.{rules}
 use Rattle.linear.proofs.Beside.{identity-more}
 use Rattle.linear.specs.Inverse.{identity_run}
 use Rattle.lists.proofs.Loops.{turns-none, turns-end}

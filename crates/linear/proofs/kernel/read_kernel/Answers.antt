@@ -1,4 +1,4 @@
-use Rattle.std.proofs.Common.{◌-◌, rules}
+use Rattle.std.proofs.Common.{rules}
 use Rattle.lists.proofs.Tables.{tab-none, tab-more}
 use Rattle.linear.proofs.kernel.read_kernel.Goals as goal
 
