@@ -1,4 +1,4 @@
-use Rattle.std.proofs.Common.{rules, ◌-◌, arith}
+use Rattle.std.proofs.Common.{rules, arith}
 use Rattle.making.proofs.Searching.{search-fails, search-skip, search-take, search-found}
 use Rattle.making.proofs.blocks.search.Goals as goal
 

@@ -1,4 +1,4 @@
-use Rattle.std.proofs.Common.{rules, ◌-◌, arith}
+use Rattle.std.proofs.Common.{rules, arith}
 use Rattle.making.proofs.Collecting.{collect-none, collect-more, collect-full}
 use Rattle.making.proofs.drawing.collect.Goals as goal
 

@@ -1,4 +1,4 @@
-use Rattle.std.proofs.Common.{rules, ◌-◌, arith}
+use Rattle.std.proofs.Common.{rules, arith}
 use Rattle.making.proofs.Entries.{rows_more, rows_end}
 use Rattle.making.proofs.filling.fill.Goals as goal
 

@@ -1,4 +1,4 @@
-use Rattle.std.proofs.Common.{rules, refl, ◌-◌, arith}
+use Rattle.std.proofs.Common.{rules, refl, arith}
 use Rattle.lists.proofs.Writing.{wrote-end}
 use Rattle.making.proofs.Entries.{row-ready, row_more}
 use Rattle.making.proofs.filling.fill_row.Goals as goal

@@ -1,4 +1,4 @@
-use Rattle.std.proofs.Common.{rules, ◌-◌, arith}
+use Rattle.std.proofs.Common.{rules, arith}
 use Rattle.making.proofs.KeyBytes.{invert-none, invert-low, invert-more, invert-end}
 use Rattle.making.proofs.keys.invert.Goals as goal
 

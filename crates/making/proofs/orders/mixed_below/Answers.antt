@@ -1,4 +1,4 @@
-use Rattle.std.proofs.Common.{rules, ◌-◌}
+use Rattle.std.proofs.Common.{rules}
 use Rattle.making.proofs.Windows.{mixed-none, mixed-more}
 use Rattle.making.proofs.orders.mixed_below.Goals as goal
 

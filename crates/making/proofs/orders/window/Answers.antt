@@ -1,4 +1,4 @@
-use Rattle.std.proofs.Common.{rules, ◌-◌, arith}
+use Rattle.std.proofs.Common.{rules, arith}
 use Rattle.making.proofs.Windows.{trying-none, trying-more, trying-found, trying-nowhere}
 use Rattle.making.proofs.orders.window.Goals as goal
 

@@ -1,4 +1,4 @@
-use Rattle.std.proofs.Common.{rules, ◌-◌, arith}
+use Rattle.std.proofs.Common.{rules, arith}
 use Rattle.making.proofs.KeyRun.{columns-more}
 use Rattle.making.proofs.runs.put_columns.Goals as goal
 
