@@ -1,5 +1,5 @@
 -- 01, Key setup: both key forms as byte strings, and what is read from a key, well formed or not.
-use Rattle.std.specs.Prelude.{◌≡◌, ◌≢◌, true, List, ◌∷◌, ◌++◌, ℕ, ◌+◌, ◌-◌, ◌*◌, ◌<◌, get_or, take, drop}
+use Rattle.std.specs.Prelude.{◌≡◌, ◌≢◌, true, List, ◌∷◌, ◌++◌, ℕ, ◌+◌, ◌*◌, ◌<◌, get_or, take, drop}
 use Rattle.bits.specs.Bits.{packed, elements_at, tail_zero}
 use Rattle.bits.specs.Numbers.{numbers16, bytes16}
 use Rattle.perm.specs.Perm.{Perm}

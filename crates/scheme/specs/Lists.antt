@@ -1,5 +1,5 @@
 -- Lists of numbers: selections, and the inverse of a permutation.
-use Rattle.std.specs.Prelude.{Bool, true, false, ◌||◌, List, [], ◌∷◌, ◌++◌, ℕ, zero, suc, ◌+◌, eqb, length, replicate}
+use Rattle.std.specs.Prelude.{Bool, false, ◌||◌, List, [], ◌∷◌, ◌++◌, ℕ, zero, suc, ◌+◌, eqb, length, replicate}
 use Rattle.lists.specs.Loops.{pick}
 use Rattle.perm.specs.Perm.{inverted}
 

@@ -1,5 +1,5 @@
 -- 01, Key setup, and 001, 7.9: matrices as functions of row and column, and the chain from G0 to the matrix that is reduced.
-use Rattle.std.specs.Prelude.{List, ℕ, zero, suc, ◌+◌, ◌-◌, ◌*◌, ◌/◌, ◌%◌, eqb, ltb, get_or}
+use Rattle.std.specs.Prelude.{List, ℕ, ◌+◌, ◌-◌, ◌*◌, ◌/◌, ◌%◌, eqb, ltb, get_or}
 use Rattle.lists.specs.Loops.{pick, tab}
 use Rattle.gf.specs.Field.{Modulus, ◌⊕◌, mul}
 

@@ -2,7 +2,7 @@
 -- that it gives at most one message is a theorem.
 use Rattle.std.specs.Prelude.{◌≡◌, ◌≢◌, Bool, true, not, List, ◌++◌, ℕ, ◌+◌, ◌-◌, ◌*◌, ◌≤◌, ◌<◌, eqb, ltb, length, get_or, take}
 use Rattle.lists.specs.Loops.{pick, tab}
-use Rattle.gf.specs.Field.{Modulus, ◌⊕◌, mul, inverse, size}
+use Rattle.gf.specs.Field.{◌⊕◌, mul, inverse, size}
 use Rattle.bits.specs.Bits.{elements, packed, tail_zero}
 use Rattle.bits.specs.Numbers.{bytes16}
 use Rattle.code.specs.Words.{CodeWord, apart}

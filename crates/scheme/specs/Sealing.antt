@@ -1,5 +1,5 @@
 -- 01, Padding, sealing, opening; 001, 6.2: the ciphertext of a message, a pad seed and t places, and the first random block that fits.
-use Rattle.std.specs.Prelude.{List, [], ◌∷◌, ◌++◌, Bool, true, false, ◌||◌, not, ℕ, zero, suc, ◌+◌, ◌-◌, ◌*◌, ◌/◌, eqb, ltb, length, get_or, take, drop, replicate}
+use Rattle.std.specs.Prelude.{List, [], ◌∷◌, ◌++◌, Bool, not, ℕ, zero, suc, ◌+◌, ◌-◌, ◌*◌, ◌/◌, eqb, ltb, length, get_or, take, drop, replicate}
 use Rattle.lists.specs.Loops.{pick, tab, first}
 use Rattle.lists.specs.Parts.{part}
 use Rattle.gf.specs.Field.{Modulus, ◌⊕◌, mul}

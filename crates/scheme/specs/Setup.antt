@@ -1,7 +1,7 @@
 -- 01, Key setup; 001, 6.1.3, 7.6 to 7.9: from random bytes to a key pair, or to the refusal that ends it.
-use Rattle.std.specs.Prelude.{List, [], ◌∷◌, ◌++◌, ℕ, zero, suc, ◌+◌, ◌-◌, ◌*◌, ◌/◌, ◌%◌, Bool, eqb, leb, ltb, length, get_or, set, take, drop, replicate}
-use Rattle.lists.specs.Loops.{pick, tab, turns, first}
-use Rattle.gf.specs.Field.{Modulus, ◌⊕◌, mul, alpha, inverse}
+use Rattle.std.specs.Prelude.{List, [], ◌∷◌, ℕ, zero, suc, ◌+◌, ◌-◌, ◌*◌, eqb, leb, ltb, length, get_or, take, drop}
+use Rattle.lists.specs.Loops.{pick, first}
+use Rattle.gf.specs.Field.{Modulus, ◌⊕◌, mul, inverse}
 use Rattle.bits.specs.Bits.{elements, bytes_for}
 use Rattle.perm.specs.Shuffle.{shuffled}
 use Rattle.sets.specs.declared.Set.{Set}

@@ -1,4 +1,4 @@
-use Rattle.std.proofs.Common.{◌-◌, length, rules}
+use Rattle.std.proofs.Common.{length, rules}
 use Rattle.lists.proofs.Loops.{turns-none, turns_more, turns-end}
 use Rattle.padding.specs.Steps.{gather_step, gather}
 use Rattle.padding.proofs.gathered.Goals as goal
