@@ -19,7 +19,7 @@ use Rattle.gf.proofs.Xor.{zero_right}
 use Rattle.gf.proofs.Runs.{add-length, add-off, add_at}
 use Rattle.bits.specs.Bits.{elements_at, bits_at}
 use Rattle.bits.proofs.Packing.{length-elements_at, elements_at-at}
-use Rattle.scheme.specs.Sealing.{combined, error_at, sent}
+use Rattle.scheme.specs.Sealing.{combined, error_at}
 use Rattle.sealing.proofs.Selections.{at-or}
 use Rattle.sealing.specs.Steps.{Rising, Laid, Summed, Added, row_added}
 

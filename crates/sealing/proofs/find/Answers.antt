@@ -1,4 +1,4 @@
-use Rattle.std.proofs.Common.{rules, ◌-◌}
+use Rattle.std.proofs.Common.{rules}
 use Rattle.sealing.proofs.Finding.{first-from, found_here, found-later, found_nowhere}
 use Rattle.sealing.proofs.find.Goals as goal
 

@@ -1,4 +1,4 @@
-use Rattle.std.proofs.Common.{rules, ◌-◌}
+use Rattle.std.proofs.Common.{rules}
 use Rattle.sealing.proofs.Elements.{zero-later, zero-here, zero-nowhere}
 use Rattle.sealing.proofs.drawing.all_set.Goals as goal
 

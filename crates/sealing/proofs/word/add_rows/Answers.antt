@@ -1,4 +1,4 @@
-use Rattle.std.proofs.Common.{rules, ◌-◌}
+use Rattle.std.proofs.Common.{rules}
 use Rattle.sealing.proofs.Words.{row_first, row_next, summed-none, summed-more}
 use Rattle.sealing.proofs.word.add_rows.Goals as goal
 
