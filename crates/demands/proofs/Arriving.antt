@@ -1,10 +1,10 @@
 -- The way of a message through the calls: what setup wrote is a pair of ours, so what is sealed or wrapped with it opens.
-use mathlib.Core.Path.{◌≡◌, refl, sym, ap, subst, ◌∙◌}
+use mathlib.Core.Path.{◌≡◌, refl, ap, subst, ◌∙◌}
 use mathlib.Core.Bool.{Bool, true, false, ◌&&◌}
 use mathlib.Core.List.{List, [], ◌∷◌}
-use Prim.Native.Nat.{ℕ, ◌+◌, ◌<◌}
+use Prim.Native.Nat.{ℕ}
 use native.Mathlib.Omega.{arith}
-use lib.Dec.{eqb, ltb}
+use lib.Dec.{eqb}
 use lib.ListN.{length, get_or}
 use borrow.Author.Tests.{eqb-true}
 use Rattle.lists.specs.Loops.{pick}
@@ -13,12 +13,11 @@ use Rattle.sets.specs.declared.Set.{Set}
 use Rattle.sets.specs.declared.Named.{Named}
 use Rattle.sets.specs.declared.Named.TheVariants.{Known, Unknown}
 use Rattle.sets.specs.Table.{set_of}
-use Rattle.scheme.specs.declared.Answer.{Answer}
 use Rattle.scheme.specs.declared.Answer.TheVariants.{Done, WrongLength}
 use Rattle.scheme.specs.Setup.{Made, made, fails, setup}
 use Rattle.sets.proofs.Valid.{known}
-use Rattle.scheme.specs.Calls.{SetupEnd, setup_lengths, after_setup, setup_of, setup_ends, SealEnd, seal_lengths, after_seal, seal_of, seal_ends}
-use Rattle.demands.specs.Demands.{Ours, Demands, GoodPair, SealedArrives, WrappedArrives, Answered, StringsAnswered}
+use Rattle.scheme.specs.Calls.{SetupEnd, setup_lengths, after_setup, setup_of, setup_ends, SealEnd, seal_lengths, after_seal, seal_ends}
+use Rattle.demands.specs.Demands.{Ours, Demands, SealedArrives, WrappedArrives, StringsAnswered}
 use Rattle.demands.proofs.Ending.{Refuses, setup-refuses}
 use Rattle.demands.proofs.Calls.{first_of, second-of}
 use Rattle.demands.proofs.Demands.{known-demands}

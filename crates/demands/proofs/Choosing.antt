@@ -1,5 +1,5 @@
 -- Sealing's choice of a block is exact: what an answer tells of every block.
-use mathlib.Core.Path.{◌≡◌, refl, sym, ap, subst, ◌∙◌}
+use mathlib.Core.Path.{◌≡◌, refl, sym, ap, ◌∙◌}
 use mathlib.Core.Bool.{Bool, true, false, ◌&&◌, not, false≢true}
 use mathlib.Core.List.{List, [], ◌∷◌}
 use Prim.Native.Nat.{ℕ, zero, suc, ◌+◌, ◌/◌, ◌≤◌, ◌<◌}
@@ -8,12 +8,11 @@ use lib.Dec.{eqb, leb, ltb}
 use lib.ListN.{length, get_or}
 use Rattle.lists.specs.Loops.{pick, first}
 use Rattle.sets.specs.declared.Set.{Set}
-use Rattle.sets.specs.declared.Named.{Named}
-use Rattle.sets.specs.declared.Named.TheVariants.{Known, Unknown}
+use Rattle.sets.specs.declared.Named.TheVariants.{Known}
 use Rattle.sets.specs.Table.{set_of}
 use Rattle.scheme.specs.declared.Answer.TheVariants.{Done, WrongLength, ZeroValues, WrongSecret}
 use Rattle.scheme.specs.Sealing.{block_at, fits, first_fitting, sealed_by, secret_message}
-use Rattle.scheme.specs.Calls.{SealEnd, zeroed, seal_lengths, after_seal, seal_of, seal_ends, wrap_of, wrap_ends}
+use Rattle.scheme.specs.Calls.{SealEnd, zeroed, seal_lengths, after_seal, seal_ends, wrap_ends}
 use Rattle.demands.specs.Demands.{HasZero, Chosen, SealChooses, WrapChooses}
 use Rattle.tie.proofs.Choices.{lt-true, lt-false}
 use Rattle.theory.proofs.Place.{at-or}

@@ -1,9 +1,8 @@
 -- Demand 1: how every call ends.
-use mathlib.Core.Path.{◌≡◌, refl, sym, ap, ◌∙◌}
+use mathlib.Core.Path.{◌≡◌, refl}
 use mathlib.Core.Bool.{Bool, true, false, ◌&&◌}
 use mathlib.Core.List.{List, [], ◌∷◌}
-use Prim.Native.Nat.{ℕ, ◌+◌, ◌/◌, ◌<◌}
-use native.Mathlib.Omega.{arith}
+use Prim.Native.Nat.{ℕ, ◌+◌, ◌/◌}
 use lib.Dec.{eqb, leb, ltb}
 use lib.ListN.{length}
 use Rattle.lists.specs.Loops.{pick}
@@ -18,7 +17,7 @@ use Rattle.scheme.specs.Keys.{public_key, private_key}
 use Rattle.scheme.specs.Setup.{Made, made, fails, Found, found, none, usable, blocks, block_elements, window, reduced_pair, with_blocks, setup}
 use Rattle.scheme.specs.Sealing.{first_fitting, sealed_by, secret_message}
 use Rattle.scheme.specs.Opening.{Opens}
-use Rattle.scheme.specs.Calls.{zeroed, SetupEnd, setup_lengths, after_setup, setup_of, setup_ends, SealEnd, seal_lengths, after_seal, seal_of, seal_ends, wrap_of, wrap_ends, open_lengths, OpenCase, OpenChecked, OpenOf, OpenEnds, GivesSecret, UnwrapSized, UnwrapChecked, UnwrapOf, UnwrapEnds, Untouched, Opening}
+use Rattle.scheme.specs.Calls.{zeroed, SetupEnd, setup_lengths, after_setup, setup_of, setup_ends, SealEnd, seal_lengths, after_seal, seal_of, seal_ends, wrap_of, wrap_ends, open_lengths, OpenCase, OpenChecked, OpenOf, OpenEnds, GivesSecret, UnwrapSized, UnwrapChecked, UnwrapOf, UnwrapEnds, Untouched}
 use Rattle.demands.specs.Demand1.{Output, Area, Demand1}
 use Rattle.demands.proofs.Made.{end_of, ge_of, key_made}
 

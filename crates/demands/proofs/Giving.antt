@@ -1,24 +1,23 @@
 -- Demand 2: past the first checks every call gives what the papers give.
 use mathlib.Core.Path.{◌≡◌, refl, sym, ap, ◌∙◌}
-use mathlib.Core.Bool.{Bool, true, false, ◌&&◌}
-use mathlib.Core.List.{List, [], ◌∷◌}
-use Prim.Native.Nat.{ℕ, ◌/◌, ◌%◌, ◌≤◌, ◌<◌}
+use mathlib.Core.Bool.{Bool, true, false}
+use mathlib.Core.List.{List, ◌∷◌}
+use Prim.Native.Nat.{ℕ, ◌/◌, ◌≤◌, ◌<◌}
 use native.Mathlib.Omega.{arith}
-use lib.Dec.{eqb, leb, ltb}
-use lib.ListN.{length, replicate, length-append, length-replicate}
+use lib.Dec.{ltb}
+use lib.ListN.{length}
 use borrow.Author.Tests.{eq-eqb}
-use Rattle.lists.specs.Loops.{pick}
 use Rattle.sets.specs.declared.Set.{Set}
 use Rattle.sets.specs.declared.Named.TheVariants.{Known}
 use Rattle.sets.specs.Table.{set_of}
 use Rattle.scheme.specs.declared.Answer.{Answer}
-use Rattle.scheme.specs.declared.Answer.TheVariants.{Done, WrongLength, ZeroValues}
+use Rattle.scheme.specs.declared.Answer.TheVariants.{Done, ZeroValues}
 use Rattle.scheme.specs.Setup.{Made, made, fails, setup}
 use Rattle.scheme.specs.Sealing.{first_fitting, sealed_by, secret_message}
 use Rattle.scheme.specs.Opening.{Opens}
-use Rattle.scheme.specs.Calls.{zeroed, SetupEnd, setup_lengths, after_setup, setup_of, setup_ends, SealEnd, seal_lengths, after_seal, seal_of, seal_ends, wrap_of, wrap_ends, open_lengths, OpenCase, OpenChecked, OpenOf, OpenEnds, GivesSecret, UnwrapSized, UnwrapChecked, UnwrapOf, UnwrapEnds}
+use Rattle.scheme.specs.Calls.{zeroed, setup_lengths, after_setup, setup_ends, seal_lengths, after_seal, seal_ends, wrap_ends, open_lengths, OpenCase, OpenChecked, OpenOf, OpenEnds, GivesSecret, UnwrapSized, UnwrapChecked, UnwrapOf, UnwrapEnds}
 use Rattle.demands.specs.Demand2.{SetupLent, SealLent, OpenLent, Demand2}
-use Rattle.tie.proofs.Choices.{lt-true, lt-false, true-lt, true-le}
+use Rattle.tie.proofs.Choices.{lt-true, true-lt, true-le}
 use Rattle.demands.proofs.Calls.{both}
 use Rattle.demands.proofs.Wrapping.{message-long}
 

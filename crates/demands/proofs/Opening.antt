@@ -1,7 +1,7 @@
 -- Of a good pair: every triple opens, and no two triples give one ciphertext.
 use mathlib.Core.Path.{◌≡◌, sym, ap, ap₂, ◌∙◌}
 use mathlib.Core.List.{List, ◌++◌}
-use Prim.Native.Nat.{ℕ, ◌+◌, ◌-◌}
+use Prim.Native.Nat.{ℕ}
 use lib.ListN.{take}
 use Rattle.gf.specs.Field.{width}
 use Rattle.bits.specs.Bits.{elements, packed}
