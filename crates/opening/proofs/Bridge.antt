@@ -1,17 +1,11 @@
 -- The definitions of opening on lists of numbers are those of the crate `pairs` on their elements.
-use mathlib.Core.Path.{◌≡◌, refl, sym, ap, ap₂, ◌∙◌}
-use mathlib.Core.Bool.{Bool, true, false, not}
+use mathlib.Core.Path.{◌≡◌, refl, ap, ap₂, ◌∙◌}
 use mathlib.Core.List.{List}
-use Prim.Native.Nat.{ℕ, zero, suc, ◌+◌, ◌-◌, ◌*◌, ◌≤◌, ◌<◌}
-use native.Mathlib.Omega.{arith}
-use lib.Dec.{ltb}
-use lib.ListN.{length, get_or}
-use Rattle.lists.specs.Loops.{tab}
+use Prim.Native.Nat.{ℕ, zero, suc, ◌+◌, ◌-◌, ◌*◌, ◌<◌}
+use lib.ListN.{get_or}
 use Rattle.lists.proofs.Tables.{get_or-tab}
 use Rattle.theory.specs.Field.{Field}
 use Rattle.theory.specs.Word.{sum}
-use Rattle.gf.specs.Field.{Modulus, mul}
-use Rattle.gf.proofs.Cyclic.{Cyclic}
 use Rattle.gf.proofs.Elements.{El, el, plus, times, el-xor, el-mul, el-inverse}
 use Rattle.gf.proofs.Elements as gf
 use Rattle.pairs.specs.Sizes.{Sizes}

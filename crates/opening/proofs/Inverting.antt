@@ -1,15 +1,14 @@
 -- A list that a key holds as bytes: its entries, and its inverse.
-use mathlib.Core.Path.{◌≡◌, refl, sym, ap, ◌∙◌}
+use mathlib.Core.Path.{◌≡◌, sym, ap, ◌∙◌}
 use mathlib.Core.Bool.{Bool, true, false}
 use mathlib.Core.List.{List}
-use Prim.Native.Nat.{ℕ, ◌+◌, ◌*◌, ◌/◌, ◌≤◌, ◌<◌}
+use Prim.Native.Nat.{ℕ, ◌+◌, ◌*◌, ◌≤◌, ◌<◌}
 use native.Mathlib.Omega.{arith}
-use native.Mathlib.Nat.{div-lt_iff_lt-mul}
-use lib.ListN.{length, get_or, set, take, drop, length-drop}
+use lib.ListN.{length, get_or, set, drop, length-drop}
 use lib.Seq.{get_or-take, get_or-drop, length-take-le}
 use Rattle.lists.specs.Loops.{turns}
 use Rattle.bits.specs.Bits.{Decided}
-use Rattle.bits.specs.Numbers.{numbers16, number16}
+use Rattle.bits.specs.Numbers.{numbers16}
 use Rattle.bits.proofs.Sixteen.{length-numbers16, numbers16-at}
 use Rattle.perm.specs.Perm.{Places, Inverse, Perm, Inverts}
 use Rattle.perm.proofs.Permutations.{entries-distinct, undoes-inverse}

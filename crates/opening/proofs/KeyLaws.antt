@@ -3,22 +3,22 @@ use mathlib.Core.Path.{◌≡◌, refl, sym, ap, ◌∙◌}
 use mathlib.Core.Logic.{◌≢◌}
 use mathlib.Core.Bool.{Bool, true, false, false≢true}
 use mathlib.Core.List.{List}
-use Prim.Native.Nat.{ℕ, ◌+◌, ◌-◌, ◌*◌, ◌/◌, ◌^◌, ◌≤◌, ◌<◌}
+use Prim.Native.Nat.{ℕ, ◌+◌, ◌-◌, ◌*◌, ◌^◌, ◌≤◌, ◌<◌}
 use native.Mathlib.Omega.{arith}
 use native.Mathlib.Nat.{mul-add, mul-le-mul_right, mul-le-mul_left}
-use lib.ListN.{length, get_or, take, drop, replicate, length-drop, length-replicate}
+use lib.ListN.{length, get_or, drop, replicate, length-replicate}
 use Rattle.lists.specs.Parts.{Wrote}
 use Rattle.lists.proofs.Writing.{wrote_as}
-use Rattle.bits.specs.Bits.{Decided, bits_at, elements_at, bytes_for, tail_zero}
-use Rattle.perm.specs.Perm.{Places, Inverse, Perm, Inverts}
+use Rattle.bits.specs.Bits.{Decided, bits_at, elements_at, tail_zero}
+use Rattle.perm.specs.Perm.{Inverse, Perm, Inverts}
 use Rattle.perm.proofs.Permutations.{inverse-unique, entries-low}
 use Rattle.perm.proofs.Inverting.{inverted-inverse}
 use Rattle.sets.specs.declared.Set.{Set}
-use Rattle.sets.specs.Valid.{Valid, key_elements}
+use Rattle.sets.specs.Valid.{key_elements}
 use Rattle.scheme.specs.Lists.{inverse_of}
 use Rattle.scheme.specs.Keys.{Private, WellFormed, read, lists_end}
 use Rattle.opening.specs.Reading.{list_from}
-use Rattle.opening.specs.Area.{second_at, first_at, mixed_at}
+use Rattle.opening.specs.Area.{second_at, first_at}
 use Rattle.opening.specs.Given.{KeyGiven}
 use Rattle.opening.specs.Stages.{Put, Orders, Ordered, Keyed, Formed}
 use Rattle.opening.proofs.Reading.{bits_small, inverse-is}

@@ -1,13 +1,12 @@
 -- A ciphertext opens to one message at most: there is one code word within t places, and one vector that goes with it.
 use mathlib.Core.Path.{◌≡◌, refl, sym, ap, ap₂, ◌∙◌}
 use mathlib.Core.List.{List}
-use Prim.Native.Nat.{ℕ, zero, suc, ◌+◌, ◌-◌, ◌*◌, ◌≤◌, ◌<◌}
+use Prim.Native.Nat.{ℕ, zero, suc, ◌+◌, ◌-◌, ◌≤◌, ◌<◌}
 use native.Mathlib.Omega.{arith}
-use lib.Dec.{eqb}
 use lib.ListN.{length, get_or}
 use lib.Seq.{ext_get_or}
 use borrow.Author.Tests.{eq-eqb, ne_eqb}
-use Rattle.lists.specs.Loops.{pick, tab}
+use Rattle.lists.specs.Loops.{tab}
 use Rattle.lists.proofs.Tables.{length-tab, get_or-tab, all-tab}
 use Rattle.theory.specs.Word.{NonZero}
 use Rattle.theory.specs.Matrix.{comb, LeftKer}
@@ -22,7 +21,6 @@ use Rattle.code.specs.Words.{CodeWord, apart}
 use Rattle.code.specs.Decoding.{Near}
 use Rattle.code.proofs.Distance.{near-once}
 use Rattle.sets.specs.declared.Set.{Set}
-use Rattle.sets.specs.Valid.{Valid}
 use Rattle.scheme.specs.Keys.{Private, WellFormed, read}
 use Rattle.scheme.specs.Opening.{Singular, Opens, Vector, W, undone, places_i, places_t}
 use Rattle.pairs.specs.Good as good

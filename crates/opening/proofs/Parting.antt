@@ -1,13 +1,13 @@
 -- Listing the places I and T of a well-formed key.
-use mathlib.Core.Path.{◌≡◌, refl, sym, ap, ap₂, subst, ◌∙◌}
+use mathlib.Core.Path.{◌≡◌, sym, ap, subst, ◌∙◌}
 use mathlib.Core.Logic.{◌≢◌}
-use mathlib.Core.Bool.{Bool, true, false, not}
+use mathlib.Core.Bool.{not}
 use mathlib.Core.List.{List}
 use Prim.Native.Nat.{ℕ, ◌+◌, ◌-◌, ◌*◌, ◌^◌, ◌≤◌, ◌<◌}
 use native.Mathlib.Omega.{arith}
 use lib.Dec.{ltb}
 use lib.Seq.{get_or-take}
-use lib.ListN.{length, get_or, take}
+use lib.ListN.{length, get_or}
 use Rattle.gf.specs.Field.{size}
 use Rattle.gf.specs.Ten.{ten}
 use Rattle.gf.proofs.Ten.{ten-field}
@@ -18,18 +18,17 @@ use Rattle.perm.specs.Perm.{Inverse, Perm}
 use Rattle.pairs.specs.Sizes as pairs
 use Rattle.pairs.specs.Key as keys
 use Rattle.sets.specs.declared.Set.{Set}
-use Rattle.sets.specs.Valid.{Valid}
 use Rattle.scheme.specs.Lists.{passing, inverse_of}
-use Rattle.scheme.specs.Keys.{Private, WellFormed, read, lists_end}
+use Rattle.scheme.specs.Keys.{WellFormed, read, lists_end}
 use Rattle.scheme.specs.Opening.{placed, unmixed, places_i, places_t}
-use Rattle.opening.specs.Area.{second_at, first_at, mixed_at, plain_at, matrix_at}
+use Rattle.opening.specs.Area.{second_at, first_at, mixed_at, plain_at}
 use Rattle.opening.specs.Given.{KeyGiven}
-use Rattle.opening.specs.Stages.{Collected, Orders, Keyed, Parted}
+use Rattle.opening.specs.Stages.{Collected, Keyed, Parted}
 use Rattle.opening.proofs.Reading.{length-first, length-second}
 use Rattle.opening.proofs.KeyLaws.{inverse-of}
 use Rattle.opening.proofs.Collecting.{length-passing}
 use Rattle.tie.proofs.Passing.{passing-ext}
-use Rattle.opening.proofs.Bridge.{K, E, word, sizes, key_of}
+use Rattle.opening.proofs.Bridge.{K, sizes, key_of}
 use Rattle.opening.proofs.Splitting.{spare, enough-T}
 
 -- a list and its inverse as functions

@@ -1,31 +1,29 @@
 -- W is singular just where its elimination stops; else its inverse stands beside it.
-use mathlib.Core.Path.{◌≡◌, refl, sym, ap, ap₂, subst, ◌∙◌}
+use mathlib.Core.Path.{◌≡◌, sym, ap, ap₂, subst, ◌∙◌}
 use mathlib.Core.Bool.{Bool, true, false, not}
-use mathlib.Core.Logic.{◌≢◌}
 use mathlib.Core.List.{List}
-use Prim.Native.Nat.{ℕ, zero, suc, ◌+◌, ◌-◌, ◌*◌, ◌^◌, ◌≤◌, ◌<◌}
+use Prim.Native.Nat.{ℕ, ◌+◌, ◌-◌, ◌*◌, ◌^◌, ◌≤◌, ◌<◌}
 use native.Mathlib.Omega.{arith}
 use native.Mathlib.Nat.{mul-le-mul_right}
 use lib.Dec.{eqb}
-use lib.ListN.{length, get_or, take, drop}
+use lib.ListN.{length, get_or, drop}
 use lib.Seq.{get_or-take, get_or-drop}
 use Rattle.lists.specs.Loops.{pick, tab}
-use Rattle.lists.specs.Parts.{part, Wrote}
+use Rattle.lists.specs.Parts.{part}
 use Rattle.lists.proofs.Tables.{length-tab, get_or-tab, all-tab}
 use Rattle.lists.proofs.Parts.{part_length}
-use Rattle.theory.specs.Word.{sum, unit, NonZero}
+use Rattle.theory.specs.Word.{NonZero}
 use Rattle.theory.specs.Matrix.{Row, comb, LeftKer}
 use Rattle.theory.proofs.Sum.{sum-ext}
 use Rattle.gf.specs.Field.{size}
 use Rattle.gf.specs.Ten.{ten}
 use Rattle.gf.proofs.Ten.{ten-field}
-use Rattle.gf.proofs.Elements.{El, el, same, num-el, times, el-injective}
+use Rattle.gf.proofs.Elements.{num-el, times, el-injective}
 use Rattle.linear.specs.Matrix.{entry}
-use Rattle.linear.specs.Elimination.{Done}
 use Rattle.linear.specs.Inverse.{LeftHalf, identity, inverted, Inverts}
 use Rattle.linear.specs.declared.inverse.Inverse.{Inverse}
 use Rattle.linear.specs.declared.inverse.Inverse.TheVariants.{Found, Singular}
-use Rattle.linear.proofs.Inverted.{found_left, singular-left, inverted-length}
+use Rattle.linear.proofs.Inverted.{found_left, singular-left}
 use Rattle.bits.specs.Bits.{elements_at}
 use Rattle.bits.proofs.Packing.{elements_at-small}
 use Rattle.sets.specs.declared.Set.{Set}
@@ -36,10 +34,10 @@ use Rattle.scheme.specs.Opening.{unmixed, places_i, places_t, W}
 use Rattle.pairs.specs.Key.{Unmixed}
 use Rattle.pairs.specs.Places.{Split}
 use Rattle.opening.specs.declared.area.Area.{Area}
-use Rattle.opening.specs.Area.{matrix_at, mixed_at, plain_at, decoding_at, open_room, Laid}
+use Rattle.opening.specs.Area.{matrix_at, mixed_at, plain_at, open_room, Laid}
 use Rattle.opening.proofs.Laying.{runs}
 use Rattle.opening.specs.Given.{KeyGiven}
-use Rattle.opening.specs.Stages.{Put, Filled, Parted, Keyed, Working, Solvable, row_sum}
+use Rattle.opening.specs.Stages.{Put, Filled, Parted, Working, Solvable}
 use Rattle.opening.proofs.Parting.{well}
 use Rattle.opening.proofs.Bridge.{K, E, sizes, key_of}
 use Rattle.opening.proofs.Splitting.{split-IT}

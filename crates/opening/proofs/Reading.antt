@@ -1,15 +1,14 @@
 -- What is read straight from the bytes of a key and a ciphertext is what they hold.
-use mathlib.Core.Path.{◌≡◌, refl, sym, ap, ◌∙◌}
+use mathlib.Core.Path.{◌≡◌, sym}
 use mathlib.Core.List.{List}
-use Prim.Native.Nat.{ℕ, ◌+◌, ◌-◌, ◌*◌, ◌/◌, ◌≤◌, ◌<◌, ◌^◌}
+use Prim.Native.Nat.{ℕ, ◌+◌, ◌*◌, ◌≤◌, ◌<◌}
 use native.Mathlib.Omega.{arith}
-use native.Mathlib.Nat.{mul-le-mul_right, mul-add, mul-one}
+use native.Mathlib.Nat.{mul-le-mul_right}
 use lib.ListN.{length, get_or}
-use Rattle.bits.specs.Bits.{bits_at, elements, elements_in, bytes_for}
+use Rattle.bits.specs.Bits.{bits_at, elements, elements_in}
 use Rattle.bits.proofs.Packing.{elements_at-at, elements-at, elements_in-bytes_for}
-use Rattle.perm.specs.Perm.{Places}
 use Rattle.sets.specs.declared.Set.{Set}
-use Rattle.sets.specs.Valid.{Valid, key_elements}
+use Rattle.sets.specs.Valid.{Valid}
 use Rattle.scheme.specs.Keys.{read, lists_end}
 use Rattle.opening.specs.Reading.{number_from}
 use Rattle.opening.specs.Given.{KeyGiven, Given}

@@ -1,7 +1,7 @@
 -- The decoding stage: the word comes to its place, is decoded there, and what is computed from the key is as it was.
 use mathlib.Core.Path.{◌≡◌, refl, sym, ap, ◌∙◌}
 use mathlib.Core.List.{List}
-use Prim.Native.Nat.{ℕ, ◌+◌, ◌-◌, ◌*◌, ◌≤◌, ◌<◌}
+use Prim.Native.Nat.{ℕ, ◌+◌, ◌-◌, ◌≤◌, ◌<◌}
 use native.Mathlib.Omega.{arith}
 use lib.ListN.{length, get_or, take, drop}
 use lib.Seq.{get_or-take, get_or-drop, ext_get_or}
@@ -9,13 +9,12 @@ use Rattle.lists.specs.Parts.{part, put, Wrote}
 use Rattle.lists.proofs.Parts.{part_length, put_same}
 use Rattle.lists.proofs.Writing.{wrote-lent}
 use Rattle.lists.proofs.Tables.{length-tab, get_or-tab}
-use Rattle.gf.specs.Field.{size, order}
+use Rattle.gf.specs.Field.{size}
 use Rattle.gf.specs.Ten.{ten}
 use Rattle.gf.proofs.Ring.{mul-lt}
 use Rattle.bits.specs.Bits.{elements}
 use Rattle.perm.proofs.Permutations.{entries-low}
 use Rattle.code.specs.Area.{word_at, decode_room}
-use Rattle.code.specs.Decoding.{Near}
 use Rattle.code.specs.Stages.{Held, DecodesIn}
 use Rattle.code.specs.declared.Decoded.{Decoded}
 use Rattle.code.specs.declared.Decoded.TheVariants.{Word, None}
@@ -25,7 +24,7 @@ use Rattle.scheme.specs.Opening.{undone}
 use Rattle.opening.specs.declared.area.Area.{Area}
 use Rattle.opening.specs.Area.{decoding_at, code_at, vector_at, Laid}
 use Rattle.opening.specs.Given.{KeyGiven, Given}
-use Rattle.opening.specs.Stages.{Same, code_in}
+use Rattle.opening.specs.Stages.{code_in}
 use Rattle.opening.specs.Receiving.{undone_of, Placed, NearIn, Decodes}
 use Rattle.opening.proofs.Laying.{runs}
 use Rattle.opening.proofs.Working.{same-wrote, same-both}

@@ -1,12 +1,12 @@
 -- A matrix with a left inverse takes no vector but zero to zero; so W, beside which its inverse stands, is not singular.
-use mathlib.Core.Path.{◌≡◌, refl, sym, ap, ◌∙◌}
+use mathlib.Core.Path.{◌≡◌, sym, ap, ◌∙◌}
 use mathlib.Core.List.{List}
 use Prim.Native.Nat.{ℕ, zero, suc, ◌+◌, ◌*◌, ◌≤◌, ◌<◌}
 use native.Mathlib.Omega.{arith}
 use native.Mathlib.Decide.{dec_lt}
 use lib.ListN.{length, get_or, get_or-eq_default}
 use Rattle.theory.specs.Field.{Field}
-use Rattle.theory.specs.Word.{sum, unit, IsZero, NonZero}
+use Rattle.theory.specs.Word.{unit, IsZero, NonZero}
 use Rattle.theory.specs.Matrix.{Row, Mat, comb, LeftKer}
 use Rattle.theory.proofs.Field.{zero-mul, mul_comm, zero-of-not}
 use Rattle.theory.proofs.Place.{at-or}
@@ -17,7 +17,7 @@ use Rattle.gf.proofs.Ten.{ten-field}
 use Rattle.gf.proofs.Elements.{El, el-injective}
 use Rattle.sets.specs.declared.Set.{Set}
 use Rattle.scheme.specs.Keys.{Private, read}
-use Rattle.scheme.specs.Opening.{Singular, W, places_i}
+use Rattle.scheme.specs.Opening.{Singular, W}
 use Rattle.pairs.proofs.Solve.{inverse-solves}
 use Rattle.opening.specs.Area.{matrix_at}
 use Rattle.opening.specs.Stages.{Working}

@@ -1,31 +1,30 @@
 -- The stages of solving: what each leaves of the one before.
-use mathlib.Core.Path.{◌≡◌, refl, sym, ap, ap₂, ◌∙◌}
+use mathlib.Core.Path.{◌≡◌, refl, ◌∙◌}
 use mathlib.Core.Logic.{◌≢◌}
-use mathlib.Core.Bool.{Bool, true, false, not}
+use mathlib.Core.Bool.{true}
 use mathlib.Core.List.{List}
-use Prim.Native.Nat.{ℕ, zero, suc, ◌+◌, ◌-◌, ◌*◌, ◌≤◌, ◌<◌}
+use Prim.Native.Nat.{ℕ, ◌+◌, ◌-◌, ◌*◌, ◌≤◌, ◌<◌}
 use native.Mathlib.Omega.{arith}
 use native.Mathlib.Nat.{mul-le-mul_right}
 use native.Mathlib.Decide.{ℕ_discrete}
 use lib.ListN.{length, get_or, set, length-set}
 use lib.Seq.{get_or-set_same, get_or-set_other}
 use Rattle.lists.specs.Parts.{Wrote}
-use Rattle.gf.specs.Field.{◌⊕◌}
 use Rattle.gf.specs.Ten.{ten}
 use Rattle.sets.specs.declared.Set.{Set}
 use Rattle.scheme.specs.Keys.{Private, read}
-use Rattle.scheme.specs.Opening.{unmixed, places_i, places_t, placed, redone}
+use Rattle.scheme.specs.Opening.{unmixed, places_i, places_t}
 use Rattle.pairs.specs.Key.{Unmixed}
 use Rattle.pairs.specs.Places.{Split}
 use Rattle.opening.specs.declared.area.Area.{Area}
 use Rattle.opening.specs.Area.{matrix_at, decoding_at, vector_at, right_at, tail_at, solved_at, Laid}
-use Rattle.opening.specs.Stages.{Same, Working, code_in, known_of, row_sum, Spread, KnownWord, MixedPart, side_of, solution_of}
+use Rattle.opening.specs.Stages.{Same, Working, code_in, known_of, row_sum, Spread, KnownWord, MixedPart, side_of}
 use Rattle.opening.proofs.Laying.{runs}
 use Rattle.opening.proofs.RowSums.{row_sum-ext}
 use Rattle.opening.proofs.Bridge.{K, sizes, key_of}
 use Rattle.opening.proofs.Parting.{well}
-use Rattle.opening.proofs.Splitting.{split-IT, yes-unmixed, unmixed-yes}
-use Rattle.opening.proofs.Working.{same-wrote, same-less, same-both, working-same, code_same, row-end, square}
+use Rattle.opening.proofs.Splitting.{split-IT, unmixed-yes}
+use Rattle.opening.proofs.Working.{same-wrote, same-less, same-both, working-same, row-end, square}
 
 module _ (s : Set) (key l : List ℕ) (u : ℕ) (Q : Working s key l u) where
   abbrev κ : Private

@@ -1,24 +1,22 @@
 -- The places I and T of a key, and the vector that goes with a code word, are those of the crate `pairs`.
-use mathlib.Core.Path.{◌≡◌, refl, sym, ap, ap₂, ◌∙◌}
+use mathlib.Core.Path.{◌≡◌, refl, sym, ap, ◌∙◌}
 use mathlib.Core.Bool.{Bool, true, false, not, false≢true}
 use mathlib.Core.List.{List}
-use Prim.Native.Nat.{ℕ, zero, suc, ◌+◌, ◌-◌, ◌*◌, ◌≤◌, ◌<◌}
+use Prim.Native.Nat.{ℕ, ◌+◌, ◌-◌, ◌≤◌}
 use native.Mathlib.Omega.{arith}
-use lib.Dec.{ltb}
 use lib.Seq.{get_or-take, length-take-le}
-use lib.ListN.{length, get_or, take}
-use Rattle.pairs.specs.Sizes.{Sizes}
-use Rattle.pairs.specs.Key.{Key, WellFormed, Unmixed}
+use lib.ListN.{length, get_or}
+use Rattle.pairs.specs.Key.{WellFormed, Unmixed}
 use Rattle.pairs.specs.Places.{Listed, Split}
 use Rattle.pairs.specs.Good as good
 use Rattle.pairs.proofs.Listing.{listed-iff}
 use Rattle.pairs.proofs.Places.{enough, split}
 use Rattle.sets.specs.declared.Set.{Set}
 use Rattle.sets.specs.Valid.{Valid}
-use Rattle.scheme.specs.Lists.{inverse_of, passing}
+use Rattle.scheme.specs.Lists.{passing}
 use Rattle.scheme.specs.Keys.{Private}
 use Rattle.scheme.specs.Opening.{placed, unmixed, places_i, places_t, Vector}
-use Rattle.tie.proofs.Choices.{lt-true, lt-false, true-lt}
+use Rattle.tie.proofs.Choices.{lt-true, true-lt}
 use Rattle.tie.proofs.Passing.{passing-listed}
 use Rattle.opening.proofs.Bridge.{K, E, word, sizes, key_of, redone-el, encoded-el}
 

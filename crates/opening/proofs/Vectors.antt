@@ -1,35 +1,33 @@
 -- The vector that is computed goes with the code word.
 use mathlib.Core.Path.{◌≡◌, refl, sym, ap, ap₂, ◌∙◌}
-use mathlib.Core.Logic.{◌≢◌}
-use mathlib.Core.Bool.{Bool, true, false, not, false≢true}
+use mathlib.Core.Bool.{Bool, true, false, false≢true}
 use mathlib.Core.List.{List}
 use Prim.Native.Nat.{ℕ, zero, suc, ◌+◌, ◌-◌, ◌*◌, ◌≤◌, ◌<◌}
 use native.Mathlib.Omega.{arith}
 use native.Mathlib.Nat.{mul-le-mul_right}
 use native.Mathlib.Decide.{dec_lt}
 use borrow.Author.Tests.{eq-eqb, ne_eqb, le-ltb}
-use lib.ListN.{length, get_or, take, drop, get_or-eq_default}
+use lib.ListN.{length, get_or, drop, get_or-eq_default}
 use lib.Seq.{get_or-take, get_or-drop}
 use Rattle.lists.specs.Loops.{pick}
 use Rattle.lists.specs.Parts.{part, Wrote}
 use Rattle.lists.proofs.Parts.{part_length}
-use Rattle.theory.specs.Field.{Field}
 use Rattle.theory.specs.Word.{sum, unit}
 use Rattle.theory.specs.Matrix.{comb}
 use Rattle.theory.proofs.Place.{at-or}
 use Rattle.theory.proofs.Sum.{sum-ext, unit-same, unit-other}
-use Rattle.gf.specs.Field.{◌⊕◌, mul, size}
+use Rattle.gf.specs.Field.{size}
 use Rattle.gf.specs.Ten.{ten}
 use Rattle.gf.proofs.Ten.{ten-field}
-use Rattle.gf.proofs.Xor.{add-lt, add_comm}
+use Rattle.gf.proofs.Xor.{add-lt}
 use Rattle.gf.proofs.Ring.{mul-lt}
-use Rattle.gf.proofs.Elements.{El, el, plus, times, plus_comm, el-xor, el-mul, el-injective}
+use Rattle.gf.proofs.Elements.{El, plus, times, plus_comm, el-xor, el-mul, el-injective}
 use Rattle.linear.specs.Inverse.{identity}
 use Rattle.sets.specs.declared.Set.{Set}
 use Rattle.sets.specs.Valid.{Valid}
 use Rattle.scheme.specs.Keys.{Private, read}
 use Rattle.scheme.specs.Sealing.{combined, encoded}
-use Rattle.scheme.specs.Opening.{unmixed, placed, places_i, places_t, redone, Vector, W}
+use Rattle.scheme.specs.Opening.{unmixed, placed, places_i, places_t, redone, W}
 use Rattle.pairs.specs.Places.{Split}
 use Rattle.pairs.specs.Key as keys
 use Rattle.pairs.specs.Encoding as coding
@@ -37,9 +35,8 @@ use Rattle.pairs.specs.Good as good
 use Rattle.pairs.proofs.Encode.{encoded-high}
 use Rattle.pairs.proofs.Solve.{inverse-solves}
 use Rattle.pairs.proofs.Opening.{vector-solved}
-use Rattle.opening.specs.Area.{matrix_at, decoding_at, code_at, vector_at, right_at, tail_at, solved_at}
-use Rattle.opening.specs.Stages.{Same, Working, code_in, known_of, row_sum, KnownWord, MixedPart, side_of, solution_of, vector_in, Found}
-use Rattle.tie.proofs.Choices.{pick-lt, true-lt}
+use Rattle.opening.specs.Area.{matrix_at, decoding_at, vector_at, tail_at}
+use Rattle.opening.specs.Stages.{Working, code_in, known_of, row_sum, KnownWord, MixedPart, side_of, solution_of, vector_in, Found}
 use Rattle.opening.proofs.RowSums.{row_sum-ext}
 use Rattle.opening.proofs.Bridge.{K, E, word, sizes, key_of, redone-el, encoded-el}
 use Rattle.opening.proofs.Splitting.{yes-unmixed, unmixed-yes, length-T}

@@ -1,31 +1,26 @@
 -- What is computed from the ciphertext leaves what is computed from the key, and is read back by it.
 use mathlib.Core.Path.{◌≡◌, refl, sym, ap, ap₂, ◌∙◌}
-use mathlib.Core.Bool.{Bool, true, false}
 use mathlib.Core.List.{List}
-use Prim.Native.Nat.{ℕ, zero, suc, ◌+◌, ◌-◌, ◌*◌, ◌≤◌, ◌<◌}
+use Prim.Native.Nat.{ℕ, ◌+◌, ◌-◌, ◌*◌, ◌≤◌, ◌<◌}
 use native.Mathlib.Omega.{arith}
 use native.Mathlib.Nat.{mul-le-mul_right, mul-le-mul_left}
-use lib.Dec.{ltb}
-use lib.ListN.{length, get_or, set, take, drop}
+use lib.ListN.{length, get_or, set, drop}
 use lib.Seq.{get_or-take, get_or-drop}
 use borrow.Author.Tests.{lt-ltb, le-ltb}
-use Rattle.lists.specs.Loops.{pick}
 use Rattle.lists.specs.Parts.{part, Wrote}
 use Rattle.lists.proofs.Writing.{part_same, wrote-more}
 use Rattle.gf.specs.Field.{◌⊕◌, mul, inverse, size}
 use Rattle.gf.specs.Ten.{ten}
 use Rattle.perm.specs.Perm.{Inverse}
 use Rattle.sets.specs.declared.Set.{Set}
-use Rattle.sets.specs.Valid.{Valid}
 use Rattle.scheme.specs.Lists.{inverse_of}
-use Rattle.scheme.specs.Keys.{Private, WellFormed, read}
-use Rattle.scheme.specs.Opening.{redone, placed, unmixed, places_i, places_t, W}
+use Rattle.scheme.specs.Keys.{Private, read}
+use Rattle.scheme.specs.Opening.{redone, placed, unmixed, places_i, places_t}
 use Rattle.pairs.specs.Key.{Unmixed}
 use Rattle.pairs.specs.Places.{Split}
 use Rattle.opening.specs.declared.area.Area.{Area}
-use Rattle.opening.specs.Area.{second_at, first_at, mixed_at, plain_at, matrix_at, decoding_at, code_at, vector_at, right_at, tail_at, solved_at, open_room, Laid}
-use Rattle.opening.specs.Given.{KeyGiven}
-use Rattle.opening.specs.Stages.{Same, Orders, Keyed, Parted, Working, code_in, known_of, Element, row_sum}
+use Rattle.opening.specs.Area.{second_at, first_at, mixed_at, plain_at, matrix_at, decoding_at, code_at, vector_at, right_at, tail_at, solved_at, Laid}
+use Rattle.opening.specs.Stages.{Same, Working, code_in, known_of, Element, row_sum}
 use Rattle.opening.proofs.Reading.{length-first}
 use Rattle.opening.proofs.KeyLaws.{inverse-of}
 use Rattle.opening.proofs.Parting.{well}

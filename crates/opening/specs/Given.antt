@@ -1,5 +1,5 @@
 -- What the inner functions of opening are given.
-use Rattle.std.specs.Prelude.{◌≡◌, List, ℕ, ◌≤◌, length}
+use Rattle.std.specs.Prelude.{◌≡◌, List, ℕ, length}
 use Rattle.gf.specs.Field.{width}
 use Rattle.perm.specs.Perm.{Places}
 use Rattle.sets.specs.declared.Set.{Set}

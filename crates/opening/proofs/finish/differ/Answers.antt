@@ -1,4 +1,4 @@
-use Rattle.std.proofs.Common.{◌-◌, arith, rules}
+use Rattle.std.proofs.Common.{arith, rules}
 use Rattle.bits.specs.Bits.{elements}
 use Rattle.opening.proofs.Collecting.{collected-none, pushed-few}
 use Rattle.opening.proofs.Differing.{differ-fits, differ-more, differ-end}

@@ -1,4 +1,4 @@
-use Rattle.std.proofs.Common.{◌-◌, arith, rules}
+use Rattle.std.proofs.Common.{arith, rules}
 use Rattle.opening.proofs.Differing.{values-still, differs-still, values-more}
 use Rattle.opening.proofs.Laying.{runs}
 use Rattle.opening.proofs.finish.fill_values.Goals as goal

@@ -1,4 +1,4 @@
-use Rattle.std.proofs.Common.{◌-◌, rules}
+use Rattle.std.proofs.Common.{rules}
 use Rattle.lists.proofs.Loops.{turns-none, turns_more}
 use Rattle.opening.proofs.inverse.write.Goals as goal
 

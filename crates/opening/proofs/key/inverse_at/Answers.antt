@@ -1,5 +1,5 @@
 -- The bits at the element’s place are the element.
-use Rattle.std.proofs.Common.{◌∙◌, sym, ◌-◌}
+use Rattle.std.proofs.Common.{◌∙◌, sym}
 use Rattle.opening.proofs.Reading.{inverse-is}
 use Rattle.opening.proofs.key.inverse_at.Goals as goal
 

@@ -1,5 +1,5 @@
 -- The entry of the list is a place of the ciphertext.
-use Rattle.std.proofs.Common.{◌∙◌, ◌-◌}
+use Rattle.std.proofs.Common.{◌∙◌}
 use Rattle.opening.proofs.Reading.{second_is, second-low}
 use Rattle.opening.proofs.key.received.Goals as goal
 

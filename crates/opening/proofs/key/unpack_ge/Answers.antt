@@ -1,5 +1,4 @@
 -- The part is lent, and the key has as many elements.
-use Rattle.std.proofs.Common.{◌-◌}
 use Rattle.opening.proofs.KeyLaws.{ge-wrote}
 use Rattle.opening.proofs.key.unpack_ge.Goals as goal
 

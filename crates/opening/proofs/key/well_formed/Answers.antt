@@ -1,5 +1,4 @@
 -- A step that fails shows why the key is malformed.
-use Rattle.std.proofs.Common.{◌-◌}
 use Rattle.opening.proofs.KeyLaws.{formed-zero, formed-end}
 use Rattle.opening.proofs.key.well_formed.Goals as goal
 

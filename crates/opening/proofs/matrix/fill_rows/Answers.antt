@@ -1,4 +1,4 @@
-use Rattle.std.proofs.Common.{◌-◌, rules}
+use Rattle.std.proofs.Common.{rules}
 use Rattle.opening.proofs.Filling.{filled_more}
 use Rattle.opening.proofs.matrix.fill_rows.Goals as goal
 

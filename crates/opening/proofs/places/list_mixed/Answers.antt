@@ -1,4 +1,4 @@
-use Rattle.std.proofs.Common.{◌-◌, rules}
+use Rattle.std.proofs.Common.{rules}
 use Rattle.opening.proofs.Collecting.{pushed-few, collected-none, mixed-more}
 use Rattle.opening.proofs.places.list_mixed.Goals as goal
 

@@ -1,5 +1,5 @@
 -- The places are listed one after the other.
-use Rattle.std.proofs.Common.{◌-◌, arith, rules}
+use Rattle.std.proofs.Common.{arith, rules}
 use Rattle.opening.proofs.Parting.{few-mixed, parted}
 use Rattle.opening.proofs.places.part_places.Goals as goal
 

@@ -1,4 +1,4 @@
-use Rattle.std.proofs.Common.{◌-◌, arith, rules}
+use Rattle.std.proofs.Common.{arith, rules}
 use Rattle.opening.proofs.Laying.{runs}
 use Rattle.opening.proofs.Working.{still, known_more}
 use Rattle.opening.proofs.solve.read_back.Goals as goal

@@ -1,4 +1,4 @@
-use Rattle.std.proofs.Common.{◌-◌, arith, rules}
+use Rattle.std.proofs.Common.{arith, rules}
 use Rattle.lists.proofs.Writing.{wrote-end}
 use Rattle.opening.proofs.Laying.{runs}
 use Rattle.opening.proofs.Working.{still, side-more}

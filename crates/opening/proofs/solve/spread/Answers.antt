@@ -1,4 +1,4 @@
-use Rattle.std.proofs.Common.{◌-◌, rules}
+use Rattle.std.proofs.Common.{rules}
 use Rattle.opening.proofs.Solving.{spread-working, spread-more, spread_end}
 use Rattle.opening.proofs.solve.spread.Goals as goal
 

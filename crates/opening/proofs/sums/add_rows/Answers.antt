@@ -1,4 +1,4 @@
-use Rattle.std.proofs.Common.{◌-◌, rules}
+use Rattle.std.proofs.Common.{rules}
 use Rattle.opening.proofs.RowSums.{sum-none, sum_more}
 use Rattle.opening.proofs.sums.add_rows.Goals as goal
 

@@ -1,5 +1,5 @@
 -- Each of the pair times its element of the column.
-use Rattle.std.proofs.Common.{◌∙◌, ◌-◌, ap}
+use Rattle.std.proofs.Common.{◌∙◌, ap}
 use Rattle.gf.specs.Field.{mul}
 use Rattle.gf.specs.Ten.{ten}
 use Rattle.opening.proofs.Undoing.{kept-mixed}

@@ -1,4 +1,4 @@
-use Rattle.std.proofs.Common.{◌∙◌, sym, ◌-◌, rules}
+use Rattle.std.proofs.Common.{◌∙◌, sym, rules}
 use Rattle.lists.proofs.Tables.{tab-none, tab-more, tab-done}
 use Rattle.opening.proofs.Undoing.{undone-tab}
 use Rattle.opening.proofs.undo.undo.Goals as goal

@@ -1,5 +1,5 @@
 -- The elements passed are those of the word.
-use Rattle.std.proofs.Common.{◌≡◌, ◌+◌, ◌-◌, ◌≤◌, ◌++◌, length, get_or, drop}
+use Rattle.std.proofs.Common.{◌≡◌, ◌-◌, ◌≤◌, ◌++◌, length, get_or, drop}
 use Rattle.bits.specs.Bits.{elements}
 use Rattle.gf.specs.Field.{mul}
 use Rattle.gf.specs.Ten.{ten}
