@@ -1,0 +1,6 @@
+-- The count of the answer is small.
+use Rattle.calls.proofs.Counts.{seal-count}
+use Rattle.stanquivol.proofs.stanquivol_seal.Goals as goal
+
+pub call_number-requires : goal.call_number-requires
+call_number-requires c = search seal-count
