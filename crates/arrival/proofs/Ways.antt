@@ -2,10 +2,10 @@
 use mathlib.Core.Path.{◌≡◌, refl, sym, ap, subst, ◌∙◌}
 use mathlib.Core.Bool.{Bool, true, false, not, false≢true}
 use mathlib.Core.List.{List}
-use Prim.Native.Nat.{ℕ, ◌+◌, ◌^◌, ◌≤◌, ◌<◌}
+use Prim.Native.Nat.{ℕ, ◌≤◌}
 use native.Mathlib.Omega.{arith}
 use lib.Pow.{pow_pos}
-use lib.ListN.{length, get_or, length-replicate, get_or-eq_default}
+use lib.ListN.{length, length-replicate, get_or-eq_default}
 use Rattle.scheme.specs.declared.Answer.{Answer}
 use Rattle.scheme.specs.declared.Answer.TheVariants.{Done, UnknownSet, WrongLength, FewMultipliers, FewElements, NoWindow, Dependent, Malformed, Singular, ZeroValues, NotOpened, WrongSecret}
 use Rattle.scheme.specs.Calls.{zeroed, SetupEnd, SealEnd, setup_ends, seal_ends, wrap_ends, OpenEnds, UnwrapEnds}
@@ -16,7 +16,7 @@ use Rattle.demands.proofs.Arriving.{sealed-arrives, wrapped-arrives}
 use Rattle.arrival.specs.declared.Way.{Way}
 use Rattle.arrival.specs.declared.Way.TheVariants.{NotMade, NotSealed, Opened}
 use borrow.Author.Tests.{not-true, not-false}
-use Rattle.arrival.specs.Arrives.{Bytes, done_of, Then, stays, goes, Arrives, unmade, unsealed, arrived, SealedThen, WrappedThen, SealedWay, WrappedWay}
+use Rattle.arrival.specs.Arrives.{Bytes, done_of, Then, stays, goes, unmade, unsealed, arrived, SealedThen, WrappedThen, SealedWay, WrappedWay}
 
 -- ---- bytes
 pub small-empty : (l : List ℕ) → length l ≡ 0 → Bytes l

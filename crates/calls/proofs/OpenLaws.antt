@@ -1,5 +1,5 @@
 -- The promises of opening and unwrapping, case by case.
-use mathlib.Core.Path.{◌≡◌, refl, sym, ap, ◌∙◌}
+use mathlib.Core.Path.{◌≡◌, refl, sym, ◌∙◌}
 use mathlib.Core.Bool.{Bool, true, false, not}
 use mathlib.Core.List.{List, [], ◌∷◌, ◌++◌, append-nil}
 use Prim.Native.Nat.{ℕ, ◌-◌, ◌≤◌, ◌<◌}
@@ -15,10 +15,9 @@ use Rattle.sets.specs.Table.{set_of}
 use Rattle.scheme.specs.declared.Answer.{Answer}
 use Rattle.scheme.specs.declared.Answer.TheVariants.{Done, UnknownSet, WrongLength, WrongSecret, NotOpened, Malformed as Answer-Malformed, Singular as Answer-Singular}
 use Rattle.scheme.specs.Opening.{Opens}
-use Rattle.scheme.specs.Calls.{zeroed, open_lengths, Untouched, Opening, GivesSecret, OpenOf, OpenEnds, UnwrapOf, UnwrapEnds}
+use Rattle.scheme.specs.Calls.{zeroed, open_lengths, Opening, GivesSecret, OpenOf, OpenEnds, UnwrapOf, UnwrapEnds}
 use Rattle.opening.specs.declared.Opened.{Opened}
 use Rattle.opening.specs.declared.Opened.TheVariants.{Message, Malformed, Singular, Not}
-use Rattle.opening.specs.Given.{KeyGiven}
 use Rattle.opening.specs.Ending.{OpenGiven, OpensAs}
 use Rattle.calls.specs.Given.{Serves, OpenServes, DiscloseGiven}
 use Rattle.calls.specs.Ends.{OpenedWiped, Withheld, HandedOut}

@@ -13,7 +13,7 @@ use Rattle.sets.specs.declared.Named.{Named}
 use Rattle.sets.specs.declared.Named.TheVariants.{Known, Unknown}
 use Rattle.sets.specs.Table.{set_of}
 use Rattle.scheme.specs.declared.Answer.TheVariants.{Done, UnknownSet, WrongLength, ZeroValues, WrongSecret}
-use Rattle.scheme.specs.Sealing.{first_fitting, sealed_by, secret_message}
+use Rattle.scheme.specs.Sealing.{first_fitting, secret_message}
 use Rattle.scheme.specs.Calls.{zeroed, SealEnd, seal_lengths, after_seal, seal_of, seal_ends, wrap_of, wrap_ends}
 use Rattle.sealing.specs.declared.Sealed.{Sealed}
 use Rattle.sealing.specs.declared.Sealed.TheVariants.{By, Nowhere}

@@ -12,7 +12,7 @@ use Rattle.sets.specs.Table.{set_of}
 use Rattle.scheme.specs.declared.Answer.{Answer}
 use Rattle.scheme.specs.declared.Answer.TheVariants.{Done, UnknownSet, WrongLength, FewMultipliers, FewElements, NoWindow, Dependent}
 use Rattle.scheme.specs.Setup.{made, fails, setup}
-use Rattle.scheme.specs.Calls.{zeroed, SetupEnd, setup_lengths, after_setup, setup_of, setup_ends}
+use Rattle.scheme.specs.Calls.{zeroed, SetupEnd, setup_lengths, after_setup, setup_ends}
 use Rattle.making.specs.declared.Made.{Made}
 use Rattle.making.specs.declared.Made.TheVariants.{Pair, FewMultipliers as Few, FewElements as FewE, NoWindow as NoW, Dependent as Dep}
 use Rattle.making.specs.Stages.{Given, Makes}
