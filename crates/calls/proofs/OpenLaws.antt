@@ -1,8 +1,9 @@
 -- The promises of opening and unwrapping, case by case.
-use mathlib.Core.Path.{◌≡◌, refl, sym, ◌∙◌}
+use mathlib.Core.Path.{◌≡◌, refl, sym, ap, ◌∙◌}
 use mathlib.Core.Bool.{Bool, true, false, not}
 use mathlib.Core.List.{List, [], ◌∷◌, ◌++◌, append-nil}
 use Prim.Native.Nat.{ℕ, ◌-◌, ◌≤◌, ◌<◌}
+use native.Mathlib.Nat.{sub-zero}
 use native.Mathlib.Omega.{arith}
 use lib.Dec.{eqb}
 use lib.ListN.{length, get_or, take, drop}
@@ -44,12 +45,8 @@ module _ (s : Set) (key cipher work : ℕ) where
 
 -- as many bytes of the message as the secret has, copied over it
 pub handed : (message secret secret' : List ℕ) → length secret ≤ length message
-    → secret' ≡ take (length (take (length secret - 0) message)) (take (length secret - 0) message) ++ drop (length (take (length secret - 0) message)) secret
-    → HandedOut message secret (Done 0) secret'
-handed message secret secret' h q =
-    let z : length secret - 0 ≡ length secret = omega arith in
-    let n : length (take (length secret) message) ≡ length secret = length-take-le (length secret) message h in
-    record { answer = refl; first = q ∙ rw (z, take-length, n, drop-length, append-nil) }
+    → secret' ≡ take (length secret - 0) message → HandedOut message secret (Done 0) secret'
+handed message secret secret' h q = record { answer = refl; first = q ∙ ap (λ (n : ℕ). take n message) (sub-zero (length secret)) }
 
 module _ (s : Set) (key cipher work : List ℕ) (r : Opened) (msg work₁ : List ℕ) where
   pub opened-wiped : OpensAs s key cipher r msg → (work₂ : List ℕ) → work₁ ≡ zeroed work₂ → length work₂ ≡ length work → OpenedWiped s key cipher work r msg work₁

@@ -1,12 +1,13 @@
 -- The definitions of sealing and wrapping, case by case.
-use mathlib.Core.Path.{◌≡◌, refl, sym, ap, ◌∙◌}
+use mathlib.Core.Path.{◌≡◌, refl, sym, ap, ap₂, ◌∙◌}
 use mathlib.Core.Bool.{Bool, true, false, not}
 use mathlib.Core.List.{List, [], ◌∷◌, ◌++◌}
 use Prim.Native.Nat.{ℕ, ◌+◌, ◌-◌, ◌/◌, ◌%◌, ◌≤◌, ◌<◌}
+use native.Mathlib.Nat.{sub-zero}
 use native.Mathlib.Omega.{arith}
 use lib.Dec.{eqb, leb}
 use lib.ListN.{length, get_or, take, drop, replicate, length-replicate, replicate-append-replicate}
-use lib.Seq.{take-length, drop_at}
+use lib.Seq.{drop_at}
 use borrow.Author.Tests.{eq-eqb, ne_eqb, le-leb, lt-leb, lt-ltb, le-ltb, eqb-true, not-true, not-false}
 use Rattle.sets.specs.declared.Set.{Set}
 use Rattle.sets.specs.declared.Named.{Named}
@@ -71,18 +72,21 @@ module _ (s : Set) (key random msg cipher work work₁ work₂ : List ℕ) (kept
       rw (le-ltb (first_fitting s msg random) (length random / s.block) g, z, kept, q, same)
 
 -- the secret laid over zeros
-module _ (s : Set) (secret msg msg₁ msg₂ : List ℕ) (long : length msg ≡ s.k1) (fits : length secret ≤ s.k1)
-    (z : msg₁ ≡ zeroed msg) (e : msg₂ ≡ take (length secret) secret ++ drop (length secret) msg₁) where
-  pub secret-laid : msg₂ ≡ secret_message s secret
+module _ (s : Set) (secret msg msg₁ front : List ℕ) (long : length msg ≡ s.k1) (fits : length secret ≤ s.k1)
+    (z : msg₁ ≡ zeroed msg) (e : front ≡ secret) where
+  abbrev laid : List ℕ
+  laid = front ++ drop (length secret - 0) msg₁
+
+  pub secret-laid : laid ≡ secret_message s secret
   unfolding secret_message
   secret-laid =
       let j : ℕ = s.k1 - length secret in
       let n : s.k1 ≡ length secret + j = omega arith in
       let w : msg₁ ≡ replicate (length secret) 0 ++ replicate j 0 = z ∙ ap (λ (k : ℕ). replicate k 0) (long ∙ n) ∙ sym (replicate-append-replicate (length secret) j 0) in
       let d : drop (length secret) msg₁ ≡ replicate j 0 = ap (drop (length secret)) w ∙ drop_at (replicate (length secret) 0) (replicate j 0) (length secret) (length-replicate (length secret) 0) in
-      e ∙ rw (take-length, d)
+      ap₂ ◌++◌ e (ap (λ (i : ℕ). drop i msg₁) (sub-zero (length secret)) ∙ d)
 
-  pub wrapped : (key random cipher work : List ℕ) (x : SealEnd) → x ≡ after_seal s key random msg₂ cipher work → x ≡ after_seal s key random (secret_message s secret) cipher work
+  pub wrapped : (key random cipher work : List ℕ) (x : SealEnd) → x ≡ after_seal s key random laid cipher work → x ≡ after_seal s key random (secret_message s secret) cipher work
   wrapped key random cipher work x q = q ∙ rw secret-laid
 
 -- ---- the lengths of a known set

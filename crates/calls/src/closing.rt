@@ -51,7 +51,7 @@ fn seal_checked(
     work: &mut [u16],
 ) -> Answer
     requires seal_given { SealGiven s key.now cipher.old work.old }
-    requires message_len { length message.now ≡ s.k1 }
+    requires message_length { length message.now ≡ s.k1 }
     ensures { seal_end result cipher.new work.new ≡ after_seal s key.now random.now message.now cipher.old work.old }
 {
     let sealed = sealing::seal(s, key, random, message, cipher, work);
@@ -120,11 +120,11 @@ fn wrap_in(
     work: &mut [u16],
 ) -> Answer
     requires seal_given { SealGiven s key.now cipher.old work.old }
-    requires message_len { (length message.old ≡ s.k1) × (length secret.now ≤ s.k1) }
+    requires lengths { (length message.old ≡ s.k1) × (length secret.now ≤ s.k1) }
     ensures { seal_end result cipher.new work.new ≡ after_seal s key.now random.now (secret_message s secret.now) cipher.old work.old }
 {
     wipe_bytes(message);
-    lists::copy(secret, message);
+    message[0..secret.len()].copy_from_slice(secret);
     seal_checked(s, key, random, message, cipher, work)
 }
 
@@ -138,7 +138,7 @@ fn wrap_checked(
     work: &mut [u16],
 ) -> Answer
     requires seal_given { SealGiven s key.now cipher.old work.old }
-    requires secret_len_bound { length secret.now ≤ s.k1 }
+    requires secret_fits { length secret.now ≤ s.k1 }
     ensures { seal_end result cipher.new work.new ≡ after_seal s key.now random.now (secret_message s secret.now) cipher.old work.old }
 {
     let k1 = s.k1;

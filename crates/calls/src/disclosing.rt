@@ -99,7 +99,7 @@ fn hand_out(message: &[u8], secret: &mut [u8]) -> Answer
     ensures { HandedOut message.now secret.old result secret.new }
 {
     let len = secret.len();
-    lists::copy(&message[0..len], secret);
+    secret.copy_from_slice(&message[0..len]);
     Answer::Done(0)
 }
 
@@ -113,7 +113,7 @@ fn unwrap_in(
     work: &mut [u16],
 ) -> Answer
     requires open_given { OpenGiven s key.now cipher.now message.old work.old }
-    requires secret_len_bound { length secret.old ≤ s.k1 }
+    requires secret_fits { length secret.old ≤ s.k1 }
     ensures { Opening s key.now cipher.now (GivesSecret s key.now cipher.now (length secret.old)) secret.old work.old result secret.new work.new }
 {
     let opened = open_wiped(s, key, cipher, message, work);
@@ -128,7 +128,7 @@ fn unwrap_in(
 // Unwrapping past the first checks. The message is wiped.
 fn unwrap_checked(s: Set, key: &[u8], cipher: &[u8], secret: &mut [u8], work: &mut [u16]) -> Answer
     requires disclose_given { DiscloseGiven s key.now cipher.now work.old }
-    requires secret_len_bound { length secret.old ≤ s.k1 }
+    requires secret_fits { length secret.old ≤ s.k1 }
     ensures { Opening s key.now cipher.now (GivesSecret s key.now cipher.now (length secret.old)) secret.old work.old result secret.new work.new }
 {
     let k1 = s.k1;

@@ -11,12 +11,8 @@ module _ {message before : List ℕ} where
   pub digest-refused : (length before ≡ 64 → ⊥) → Digested message before Refused before
   digest-refused h = record { done = λ e. absurd (h e); refused = λ n. (refl, refl) }
 
-  pub digest-done : {d after : List ℕ} → length before ≡ 64 → length d ≡ 64 → d ≡ sha512 message → after ≡ take (length d) d ++ drop (length d) before
-      → Digested message before Done after
-  digest-done {d} {after} l n e p =
-      let whole : after ≡ sha512 message =
-      p ∙ ap₂ ◌++◌ (take_all (length d) d (omega arith)) (drop_of_length-le before {i = length d} (omega arith)) ∙ append-nil d ∙ e in
-      record { done = λ _. (refl, whole); refused = λ h. absurd (h l) }
+  pub digest-done : {d after : List ℕ} → length before ≡ 64 → length d ≡ 64 → d ≡ sha512 message → after ≡ d → Digested message before Done after
+  digest-done l n e p = record { done = λ _. (refl, p ∙ e); refused = λ h. absurd (h l) }
 
 module _ {seed before : List ℕ} where
   pub mask-long-seed : 65536 < length seed → Masked seed before Refused before

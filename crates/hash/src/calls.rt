@@ -19,7 +19,7 @@ pub fn sha512(message: &[u8], out: &mut [u8]) -> Answer
         return Answer::Refused;
     }
     let d = digest(message);
-    lists::copy(&d, out);
+    out.copy_from_slice(&d);
     Answer::Done
 }
 

@@ -1,7 +1,7 @@
-// What every layer says of lists and loops, and the calls that set a lent slice to zero or write its front.
+// What every layer says of lists and loops, and the calls that set a lent slice to zero.
 #![tactic(auto)]
 
-ghost use Rattle.std.specs.Prelude.{◌≡◌, ◌≤◌, ◌++◌, drop, length, replicate, take};
+ghost use Rattle.std.specs.Prelude.{◌≡◌, length, replicate};
 
 // Every byte becomes zero.
 pub fn wipe_bytes(s: &mut [u8])
@@ -23,12 +23,4 @@ pub fn wipe_numbers(s: &mut [u16])
         s[i] = 0;
         i += 1;
     }
-}
-
-// The bytes of `from` become the front of `to`; what stands behind them stays.
-pub fn copy(from: &[u8], to: &mut [u8])
-    requires { length from.now ≤ length to.old }
-    ensures { (length to.new ≡ length to.old) × (to.new ≡ take (length from.now) from.now ++ drop (length from.now) to.old) }
-{
-    to[..from.len()].copy_from_slice(from);
 }

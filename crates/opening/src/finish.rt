@@ -139,7 +139,7 @@ fn unpad_in(
     message: &mut [u8],
 ) -> Unpadded
     requires unpadding { Unpadding s a work.now × Fitting s }
-    requires string_len { (length string.old ≡ s.k1 + s.k2 + s.k3) × (length places.old ≡ 2 * s.t) × (length message.old ≡ s.k1) }
+    requires lengths { (length string.old ≡ s.k1 + s.k2 + s.k3) × (length places.old ≡ 2 * s.t) × (length message.old ≡ s.k1) }
     ensures { Unpads s (packed s.m (part (vector_at s) (s.k + s.t) work.now)) (bytes16 (part (places_at s) s.t work.now)) message.old result message.new }
 {
     pack_string(s, a, work, string);
@@ -150,7 +150,7 @@ fn unpad_in(
 // The same, with room of its own, which is wiped.
 fn unpad_work(s: Set, a: Area, work: &[u16], message: &mut [u8]) -> Unpadded
     requires unpadding { Unpadding s a work.now × Fitting s }
-    requires message_len { length message.old ≡ s.k1 }
+    requires message_length { length message.old ≡ s.k1 }
     ensures { Unpads s (packed s.m (part (vector_at s) (s.k + s.t) work.now)) (bytes16 (part (places_at s) s.t work.now)) message.old result message.new }
 {
     let long = s.k1 + s.k2 + s.k3;

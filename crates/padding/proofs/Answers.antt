@@ -113,18 +113,12 @@ module _ (s : Set) (p e0 : List ℕ) (l : length p ≡ s.k1 + s.k2 + s.k3) (some
         z (ap gather (ap (part s.k1 (s.k1 + s.k2 - s.k1)) e ∙ stripped-check ∙ ap (xored u) (sym q))
         ∙ gather_none (xored u u) (xored-self u ∙ ap (λ (i : ℕ). replicate i 0) (sym n)))
 
-    -- the first k1 bytes, copied to a slice of that length
-    pub message-copied : {y : List ℕ} (before : List ℕ) → length before ≡ s.k1
-        → y ≡ take (length (take (s.k1 - 0) x)) (take (s.k1 - 0) x) ++ drop (length (take (s.k1 - 0) x)) before
-        → y ≡ message_of s p e0
-    message-copied {y} before b q =
+    -- the first k1 bytes
+    pub message-copied : {y : List ℕ} → y ≡ take (s.k1 - 0) x → y ≡ message_of s p e0
+    message-copied q =
         let m = message_of s p e0 in
         let c = xored (drop s.k1 (unmasked s p e0)) (check_of s p e0) in
-        let t : take (s.k1 - 0) x ≡ m =
-        ap₂ take (sub-zero s.k1) (e ∙ stripped-is ∙ append_assoc m c (seed_of s p)) ∙ take_at m (c ++ seed_of s p) s.k1 (length-message_of s p l e0) in
-        let past : length before ≤ length m = omega (arith, length-message_of s p l e0) in
-        q ∙ ap (λ (z : List ℕ). take (length z) z ++ drop (length z) before) t
-        ∙ ap₂ ◌++◌ (take-length m) (drop_of_length-le before past) ∙ append-nil m
+        q ∙ ap₂ take (sub-zero s.k1) (e ∙ stripped-is ∙ append_assoc m c (seed_of s p)) ∙ take_at m (c ++ seed_of s p) s.k1 (length-message_of s p l e0)
 
 -- ---- no two answers to one padded string
 pub unpads-once : (s : Set) (p e0 before : List ℕ) (a b : Unpadded) (x y : List ℕ)

@@ -61,13 +61,10 @@ check-step p e0 k1 k2 h₀ h₁ h₂ h {q} l new given₁ given₂ given mask =
     rw (n, e)
 
 -- the message and the pad seed in a string of zeros
-pub lay_step : (msg seed out w x y : List ℕ) → length msg + length seed ≤ length out
-    → w ≡ replicate (length out) 0
-    → x ≡ take (length msg) msg ++ drop (length msg) w
-    → y ≡ take (length seed) seed ++ drop (length seed) (part (length out - length seed) (length x - (length out - length seed)) x)
-    → put (length out - length seed) (length x - (length out - length seed)) y x
+pub lay_step : (msg seed out w q y : List ℕ) → length msg + length seed ≤ length out → w ≡ replicate (length out) 0 → q ≡ msg → y ≡ seed
+    → put (length out - length seed) (length (q ++ drop (length msg - 0) w) - (length out - length seed)) y (q ++ drop (length msg - 0) w)
     ≡ (msg ++ replicate (length out - (length msg + length seed)) 0) ++ seed
-lay_step msg seed out w x y h we xe ye =
+lay_step msg seed out w q y h we qe ye =
     let m = length msg in
     let j : ℕ = length out - (m + length seed) in
     let at : ℕ = length out - length seed in
@@ -79,15 +76,11 @@ lay_step msg seed out w x y h we xe ye =
     ∙ ap (λ (l : List ℕ). replicate m 0 ++ l) (sym (replicate-append-replicate j (length seed) 0)) in
     let wd : drop m w ≡ replicate j 0 ++ replicate (length seed) 0 =
     ap (drop m) ww ∙ drop_at (replicate m 0) (replicate j 0 ++ replicate (length seed) 0) m (length-replicate m 0) in
+    let x = q ++ drop (m - 0) w in
     let xx : x ≡ z ++ replicate (length seed) 0 =
-    xe ∙ ap₂ ◌++◌ (take-length msg) wd ∙ sym (append_assoc msg (replicate j 0) (replicate (length seed) 0)) in
+    ap₂ ◌++◌ qe (ap (λ (i : ℕ). drop i w) (sub-zero m) ∙ wd) ∙ sym (append_assoc msg (replicate j 0) (replicate (length seed) 0)) in
     let xt : take at x ≡ z = ap (take at) xx ∙ take_at z (replicate (length seed) 0) at zl in
-    let xd : drop at x ≡ replicate (length seed) 0 = ap (drop at) xx ∙ drop_at z (replicate (length seed) 0) at zl in
-    let rest : part at (length x - at) x ≡ replicate (length seed) 0 = whole-rest at x ∙ xd in
-    let gone : drop (length seed) (replicate {A = ℕ} (length seed) 0) ≡ [] =
-    drop_of_length-le (replicate (length seed) 0) {i = length seed} (omega (arith, length-replicate {A = ℕ} (length seed) 0)) in
-    let yy : y ≡ seed = ye ∙ ap₂ ◌++◌ (take-length seed) (ap (drop (length seed)) rest ∙ gone) ∙ append-nil seed in
-    ap₂ ◌++◌ xt (ap₂ ◌++◌ yy (none_after at x) ∙ append-nil seed)
+    ap₂ ◌++◌ xt (ap₂ ◌++◌ ye (none_after at x) ∙ append-nil seed)
 
 -- ---- a step on a string that is given by its parts
 pub seed-of : (front : ℕ) (a b : List ℕ) → length a ≡ front → seed_masked front (a ++ b) ≡ a ++ xored b (mgf a (length b))

@@ -68,8 +68,8 @@ fn lay(msg: &[u8], seed: &[u8], out: &mut [u8])
 {
     let at = out.len() - seed.len();
     wipe_bytes(out);
-    lists::copy(msg, out);
-    lists::copy(seed, &mut out[at..]);
+    out[0..msg.len()].copy_from_slice(msg);
+    out[at..].copy_from_slice(seed);
 }
 
 // Every bit that is set in some byte: zero where all bytes are, found without a look at where one is not.
@@ -112,7 +112,7 @@ fn strip(p: &mut [u8], k1: usize, k2: usize, lost: usize, e0: &[u8])
 // RLCEpad: the message, padded with the pad seed and e0, into `out`.
 pub fn pad(s: Set, msg: &[u8], seed: &[u8], e0: &[u8], out: &mut [u8])
     requires valid { Valid s }
-    requires msg_len { (length msg.now ≡ s.k1) × (length seed.now ≡ s.k3) × (length e0.now < 2 ^ 32) × (length out.old ≡ s.k1 + s.k2 + s.k3) }
+    requires lengths { (length msg.now ≡ s.k1) × (length seed.now ≡ s.k3) × (length e0.now < 2 ^ 32) × (length out.old ≡ s.k1 + s.k2 + s.k3) }
     ensures { out.new ≡ padded s msg.now seed.now e0.now }
 {
     let k1 = s.k1;
@@ -132,9 +132,9 @@ pub enum Unpadded {
 // RLCEpadDecode: the message of the padded string p, if its check bytes are right. p is worked on in place.
 pub fn unpad(s: Set, p: &mut [u8], e0: &[u8], msg: &mut [u8]) -> Unpadded
     requires valid { Valid s }
-    requires e0_len_bound { (length e0.now < 2 ^ 32) × (length p.old ≡ s.k1 + s.k2 + s.k3) × (length msg.old ≡ s.k1) }
+    requires lengths { (length e0.now < 2 ^ 32) × (length p.old ≡ s.k1 + s.k2 + s.k3) × (length msg.old ≡ s.k1) }
     ensures unpads { Unpads s p.old e0.now msg.old result msg.new }
-    ensures p_after { p.new ≡ stripped s.k1 s.k2 (lost_bits s) e0.now p.old }
+    ensures leaves { p.new ≡ stripped s.k1 s.k2 (lost_bits s) e0.now p.old }
 {
     let k1 = s.k1;
     let k2 = s.k2;
@@ -144,6 +144,6 @@ pub fn unpad(s: Set, p: &mut [u8], e0: &[u8], msg: &mut [u8]) -> Unpadded
     if gathered(&p[k1..front]) != 0 {
         return Unpadded::Wrong;
     }
-    lists::copy(&p[0..k1], msg);
+    msg.copy_from_slice(&p[0..k1]);
     Unpadded::Message
 }

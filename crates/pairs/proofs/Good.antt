@@ -6,8 +6,8 @@ use native.Mathlib.Omega.{arith}
 use Rattle.theory.specs.Field.{Field}
 use Rattle.theory.specs.Word.{IsZero, wt}
 use Rattle.theory.specs.Code.{Points}
-use Rattle.theory.proofs.Field.{ring, add-self, eq-of-add}
-use Rattle.theory.proofs.Weight.{wt-mono, wt-add}
+use Rattle.theory.proofs.Field.{ring}
+use Rattle.theory.proofs.Weight.{wt-mono}
 use Rattle.theory.proofs.Distance.{distance}
 use Rattle.theory.proofs.Steps.{comb-linear}
 use Rattle.pairs.specs.Sizes.{Sizes, total}
@@ -16,7 +16,7 @@ use Rattle.pairs.specs.Encoding.{public, encoded}
 use Rattle.pairs.specs.Places.{Split}
 use Rattle.pairs.specs.Good.{InCode, Lands, Good, Vector, Finds}
 use Rattle.pairs.proofs.Undo.{undone-add, undone-ext, undone-weight, undone-zero, lands-linear, lands-narrow, lands-nil, redone-undone}
-use Rattle.pairs.proofs.Encode.{encoded-low, encoded-add, encoded-ext, encoded-comb}
+use Rattle.pairs.proofs.Encode.{encoded-low, encoded-comb}
 use Rattle.pairs.proofs.Solve.{decided}
 use Rattle.pairs.proofs.Opening.{near-once, finds-once}
 
@@ -35,9 +35,9 @@ module _ (K : Field) (s : Sizes) (X : ℕ → K.F) (P : Points K X s.n) (κ : Ke
       lands-narrow K s κ ok X _ _ (λ j l. sym (encoded-comb K s.k κ.ge x j))
       (comb-linear K (Lands K s X κ) (lands-linear K s κ X) (lands-nil K s κ X) s.k (public K s.k κ.ge) x G.rows)
 
-  -- only the word of zero has a weight of at most 2t
-  light-zero : (x : ℕ → F) → wt K (word x) (total s) ≤ s.t + s.t → IsZero K s.k x
-  light-zero x h =
+  -- THEOREM (far). Only the word of zero has a weight of at most 2t.
+  pub far : (x : ℕ → F) → wt K (word x) (total s) ≤ s.t + s.t → IsZero K s.k x
+  far x h =
       decided K s.k (total s) κ.ge (Unmixed K s κ) u I T S G.regular x
       (λ i l q. sym (encoded-low K s.k κ.ge x i l) ∙ none i (omega arith) q)
       (λ b l. none (T b) (S.low b l) (S.read b l))
@@ -46,30 +46,6 @@ module _ (K : Field) (s : Sizes) (X : ℕ → K.F) (P : Points K X s.n) (κ : Ke
       none =
           undone-zero K s κ ok (word x)
           (distance K X s.n P s.k _ (word-lands x) (omega (arith, undone-weight K s κ ok (word x))))
-
-  -- THEOREM (far). Only the word of zero has a weight of at most 2t.
-  pub far : (x : ℕ → F) → wt K (word x) (total s) ≤ s.t + s.t → IsZero K s.k x
-  far = light-zero
-
-  -- THEOREM (triples, once). One word is that of one vector and one error of weight at most t.
-  pub triples-once : (x y e f : ℕ → F) → wt K e (total s) ≤ s.t → wt K f (total s) ≤ s.t
-      → ((j : ℕ) → j < total s → word x j ⊕ e j ≡ word y j ⊕ f j)
-      → ((i : ℕ) → i < s.k → x i ≡ y i) × ((j : ℕ) → j < total s → e j ≡ f j)
-  triples-once x y e f we wf h = (
-    same,
-    λ j l. eq-of-add K _ _ (sym (apart j l) ∙ rw (encoded-ext K s.k κ.ge x y same j) (add-self K _)),
-  )
-    where
-      apart : (j : ℕ) → j < total s → word x j ⊕ word y j ≡ e j ⊕ f j
-      apart j l = eq-of-add K _ _ (group ∙ rw (h j l) (add-self K _))
-        where
-          group : word x j ⊕ word y j ⊕ (e j ⊕ f j) ≡ word x j ⊕ e j ⊕ (word y j ⊕ f j)
-          group = simp ring
-
-      same : (i : ℕ) → i < s.k → x i ≡ y i
-      same i l =
-          eq-of-add K (x i) (y i)
-          (light-zero (λ i. x i ⊕ y i) (omega (arith, wt-mono K (λ j. e j ⊕ f j) (word (λ i. x i ⊕ y i)) (total s) (λ j q z. encoded-add K s.k κ.ge x y j ∙ apart j q ∙ z), wt-add K e f (total s))) i l)
 
   -- the vector goes with the undone word of its own word
   pub vector-own : (x : ℕ → F) → Vector K s κ u T (undone K s κ (word x)) x

@@ -4,7 +4,8 @@
 --   Places    enough (T has its u places), split
 --   Solve     solved-once
 --   Opening   vector-once, finds-once (every well-formed key whose W is regular)
---   Good      far, triples-once, opens-near, opens-nearest, opens, opens-once (every good pair: demand 3)
+--   Good      far, opens-near, opens-nearest, opens, opens-once (every good pair)
+--   Triples   triples-once (every good pair)
 --   Chain     undone-chain
 --   Regular   regular
 --   Setup     setup-good (every pair of setup is good)
@@ -16,6 +17,7 @@ pub mod Places
 pub mod Solve
 pub mod Opening
 pub mod Good
+pub mod Triples
 pub mod Chain
 pub mod Regular
 pub mod Setup

@@ -22,7 +22,7 @@ fn room() -> [u8; 1024]
 // The message, padded with the pad seed and the places string, for which there is room in `string`.
 fn pad_in(s: Set, msg: &[u8], seed: &[u8], places: &[u16], string: &mut [u8], out: &mut [u8])
     requires valid { Valid s }
-    requires msg_len { (length msg.now ≡ s.k1) × (length seed.now ≡ s.k3) × (length string.old ≡ 1024) × (2 * length places.now ≤ 1024) × (length out.old ≡ s.k1 + s.k2 + s.k3) }
+    requires lengths { (length msg.now ≡ s.k1) × (length seed.now ≡ s.k3) × (length string.old ≡ 1024) × (2 * length places.now ≤ 1024) × (length out.old ≡ s.k1 + s.k2 + s.k3) }
     ensures { out.new ≡ padded s msg.now seed.now (bytes16 places.now) }
 {
     let end = 2 * places.len();
@@ -33,7 +33,7 @@ fn pad_in(s: Set, msg: &[u8], seed: &[u8], places: &[u16], string: &mut [u8], ou
 // The same, with room of its own, which is wiped.
 fn pad_places(s: Set, msg: &[u8], seed: &[u8], places: &[u16], out: &mut [u8])
     requires valid { Valid s }
-    requires msg_len { (length msg.now ≡ s.k1) × (length seed.now ≡ s.k3) × (2 * length places.now ≤ 1024) × (length out.old ≡ s.k1 + s.k2 + s.k3) }
+    requires lengths { (length msg.now ≡ s.k1) × (length seed.now ≡ s.k3) × (2 * length places.now ≤ 1024) × (length out.old ≡ s.k1 + s.k2 + s.k3) }
     ensures { out.new ≡ padded s msg.now seed.now (bytes16 places.now) }
 {
     let mut string = room();
@@ -45,7 +45,7 @@ fn pad_places(s: Set, msg: &[u8], seed: &[u8], places: &[u16], out: &mut [u8])
 fn draw(s: Set, msg: &[u8], seed: &[u8], cipher: &mut [u8], work: &mut [u16])
     requires valid { Valid s }
     requires room { Room s }
-    requires msg_len { (length msg.now ≡ s.k1) × (length seed.now ≡ s.k3) × (length cipher.old ≡ s.cipher) × (length work.old ≡ s.work) }
+    requires lengths { (length msg.now ≡ s.k1) × (length seed.now ≡ s.k3) × (length cipher.old ≡ s.cipher) × (length work.old ≡ s.work) }
     ensures { Drew s msg.now seed.now work.old work.new }
 {
     let size = s.n + s.w;
@@ -83,7 +83,7 @@ fn all_set(values: &[u16]) -> bool
 pub fn try_block(s: Set, msg: &[u8], block: &[u8], cipher: &mut [u8], work: &mut [u16]) -> bool
     requires valid { Valid s }
     requires room { Room s }
-    requires msg_len { (length msg.now ≡ s.k1) × (length block.now ≡ s.block) × (length cipher.old ≡ s.cipher) × (length work.old ≡ s.work) }
+    requires lengths { (length msg.now ≡ s.k1) × (length block.now ≡ s.block) × (length cipher.old ≡ s.cipher) × (length work.old ≡ s.work) }
     ensures { Tried s msg.now block.now result work.new }
 {
     let size = s.n + s.w;

@@ -28,7 +28,7 @@ pub enum Sealed {
 fn find(s: Set, random: &[u8], msg: &[u8], cipher: &mut [u8], work: &mut [u16]) -> Sealed
     requires valid { Valid s }
     requires room { Room s }
-    requires msg_len { (length msg.now ≡ s.k1) × (length cipher.old ≡ s.cipher) × (length work.old ≡ s.work) }
+    requires lengths { (length msg.now ≡ s.k1) × (length cipher.old ≡ s.cipher) × (length work.old ≡ s.work) }
     ensures { Finds s random.now msg.now result work.new }
 {
     let block = s.block;
@@ -55,8 +55,8 @@ pub fn seal(
     work: &mut [u16],
 ) -> Sealed
     requires valid { Valid s }
-    requires m_value { (s.m ≡ width (field_of s)) × (2 * s.t ≤ 1024) }
-    requires key_len { (length key.now ≡ s.public) × (length msg.now ≡ s.k1) × (length cipher.old ≡ s.cipher) × (length work.old ≡ s.work) }
+    requires bounds { (s.m ≡ width (field_of s)) × (2 * s.t ≤ 1024) }
+    requires lengths { (length key.now ≡ s.public) × (length msg.now ≡ s.k1) × (length cipher.old ≡ s.cipher) × (length work.old ≡ s.work) }
     ensures { Seals s key.now random.now msg.now result cipher.new }
 {
     let found = find(s, random, msg, cipher, work);

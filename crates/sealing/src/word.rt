@@ -89,7 +89,7 @@ fn add_values(work: &mut [u16], size: usize, places: usize, values: usize, t: us
 pub fn send(s: Set, key: &[u8], work: &mut [u16], cipher: &mut [u8])
     requires valid { Valid s }
     requires room { Room s }
-    requires m_value { (s.m ≡ width (field_of s)) × (length key.now ≡ s.public) × (length work.old ≡ s.work) × (length cipher.old ≡ s.cipher) × Ready s work.old }
+    requires ready { (s.m ≡ width (field_of s)) × (length key.now ≡ s.public) × (length work.old ≡ s.work) × (length cipher.old ≡ s.cipher) × Ready s work.old }
     ensures { cipher.new ≡ packed s.m (sent s (public_ge s key.now) (part (3 * (s.n + s.w)) s.k work.old) (part (2 * (s.n + s.w)) s.t work.old) (part (3 * (s.n + s.w) + s.k) s.t work.old)) }
 {
     let size = s.n + s.w;

@@ -9,21 +9,21 @@ returns-then-gathered-ne0 c =
     let a = c.args in
     let e = c.strip.ensures ∙ ap (λ (ν : ℕ). stripped a.s.k1 a.s.k2 ν a.e0.now a.p.now) c.lost_bits-lost.ensures.0 in record {
       unpads = (
-        checks-wrong a.s a.p.now a.e0.now c.requires.e0_len_bound.1 c.requires.valid.some_seed e (λ z. c.if-gathered-ne0.true (c.gathered.ensures ∙ z)),
+        checks-wrong a.s a.p.now a.e0.now c.requires.lengths.1 c.requires.valid.some_seed e (λ z. c.if-gathered-ne0.true (c.gathered.ensures ∙ z)),
         refl,
       );
-      p_after = e;
+      leaves = e;
     }
 
 pub returns : goal.returns
 returns c =
     let a = c.args in
-    let l = c.requires.e0_len_bound.1 in
+    let l = c.requires.lengths.1 in
     let some = c.requires.valid.some_seed in
     let e = c.strip.ensures ∙ ap (λ (ν : ℕ). stripped a.s.k1 a.s.k2 ν a.e0.now a.p.now) c.lost_bits-lost.ensures.0 in record {
       unpads = (
         checks-right a.s a.p.now a.e0.now l some e (sym c.gathered.ensures ∙ c.if-gathered-ne0.false),
-        message-copied a.s a.p.now a.e0.now l some e a.msg.now c.requires.e0_len_bound.2 c.copy.ensures.1,
+        message-copied a.s a.p.now a.e0.now l some e c.copy_from_slice.ensures.after,
       );
-      p_after = e;
+      leaves = e;
     }

@@ -3,4 +3,4 @@ use Rattle.std.proofs.Common.{[]}
 use Rattle.hash.proofs.hasher.digest.Goals as goal
 
 pub returns : goal.returns
-returns c = c.finish.ensures _ (c.update.ensures.by_index [] c.new.ensures.holds)
+returns c = c.finish.ensures _ (c.update.ensures.goes_on [] c.new.ensures.holds)

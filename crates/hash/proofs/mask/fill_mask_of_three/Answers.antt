@@ -4,7 +4,7 @@ use Rattle.hash.proofs.mask.fill_mask_of_three.Goals as goal
 
 pub returns : goal.returns
 returns c =
-    let one = c.update.ensures.by_index [] c.new.ensures.holds in
-    let two = c.update-2.ensures.by_index _ one in
-    let three = c.update-3.ensures.by_index _ two in
+    let one = c.update.ensures.goes_on [] c.new.ensures.holds in
+    let two = c.update-2.ensures.goes_on _ one in
+    let three = c.update-3.ensures.goes_on _ two in
     c.fill_mask.ensures _ three

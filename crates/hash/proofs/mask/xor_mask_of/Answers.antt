@@ -4,5 +4,5 @@ use Rattle.hash.proofs.mask.xor_mask_of.Goals as goal
 
 pub returns : goal.returns
 returns c =
-    let one = c.update.ensures.by_index [] c.new.ensures.holds in
+    let one = c.update.ensures.goes_on [] c.new.ensures.holds in
     c.xor_mask.ensures _ one

@@ -4,4 +4,4 @@ use Rattle.sealing.proofs.Elements.{draw-is}
 use Rattle.sealing.proofs.drawing.draw.Goals as goal
 
 pub returns : goal.returns
-returns c = let a = c.args in draw-is a.s c.requires.room a.msg.now a.seed.now a.cipher.now a.work.now c.pad_places.new.out c.requires.msg_len c.pad_places.ensures (omega arith) (omega arith) c.unpack.new.out c.unpack.ensures
+returns c = let a = c.args in draw-is a.s c.requires.room a.msg.now a.seed.now a.cipher.now a.work.now c.pad_places.new.out c.requires.lengths c.pad_places.ensures (omega arith) (omega arith) c.unpack.new.out c.unpack.ensures

@@ -6,4 +6,4 @@ use Rattle.hash.proofs.hasher.Hasher.finish.Goals as goal
 pub returns : goal.returns
 returns c =
     λ m h.
-    c.output.ensures ∙ padded m h.len_is c.mark-mark.ensures c.bits-size.ensures (c.update.ensures.by_index _ (c.update-h.ensures.by_index m h))
+    c.output.ensures ∙ padded m h.len_is c.mark-mark.ensures c.bits-size.ensures (c.update.ensures.goes_on _ (c.update-h.ensures.goes_on m h))

@@ -5,4 +5,4 @@ use Rattle.hash.proofs.hasher.Hasher.new.Goals as goal
 
 pub returns : goal.returns
 unfolding chain
-returns c = record { len_value = refl; holds = record { state_is = c.initial.ensures; rest_is = refl; rest_long = c.zeros.ensures; len_is = refl } }
+returns c = record { counts = refl; holds = record { state_is = c.initial.ensures; rest_is = refl; rest_long = c.zeros.ensures; len_is = refl } }

@@ -6,12 +6,12 @@ use Rattle.hash.proofs.hasher.Hasher.update.Goals as goal
 pub returns-then-s-k : goal.returns-then-s-k
 returns-then-s-k c =
     let a = c.args in
-    record { len_value = refl; by_index = few a.self.state a.self.rest a.self.len a.s.now c.if-s-k.true c.fill-more.ensures }
+    record { counts = refl; goes_on = few a.self.state a.self.rest a.self.len a.s.now c.if-s-k.true c.fill-more.ensures }
 
 pub returns : goal.returns
 returns c =
     let a = c.args in record {
-      len_value = refl;
-      by_index = many a.self.state a.self.rest a.self.len a.s.now c.if-s-k.false c.fill-first.ensures c.compress-after.ensures c.tail-t.ensures
+      counts = refl;
+      goes_on = many a.self.state a.self.rest a.self.len a.s.now c.if-s-k.false c.fill-first.ensures c.compress-after.ensures c.tail-t.ensures
           c.blocks-last.ensures c.tail.ensures c.fill-more-2.ensures;
     }
