@@ -1,20 +1,19 @@
 -- The promises of opening and unwrapping, case by case.
 use mathlib.Core.Path.{◌≡◌, refl, sym, ap, ◌∙◌}
 use mathlib.Core.Bool.{Bool, true, false, not}
-use mathlib.Core.List.{List, [], ◌∷◌, ◌++◌, append-nil}
+use mathlib.Core.List.{List, [], ◌∷◌}
 use Prim.Native.Nat.{ℕ, ◌-◌, ◌≤◌, ◌<◌}
 use native.Mathlib.Nat.{sub-zero}
 use native.Mathlib.Omega.{arith}
 use lib.Dec.{eqb}
-use lib.ListN.{length, get_or, take, drop}
-use lib.Seq.{take-length, drop-length, length-take-le}
+use lib.ListN.{length, get_or, take}
 use borrow.Author.Tests.{eq-eqb, ne_eqb, le-leb, lt-leb, eqb-true, not-true, not-false}
 use Rattle.sets.specs.declared.Set.{Set}
 use Rattle.sets.specs.declared.Named.{Named}
 use Rattle.sets.specs.declared.Named.TheVariants.{Known, Unknown}
 use Rattle.sets.specs.Table.{set_of}
 use Rattle.scheme.specs.declared.Answer.{Answer}
-use Rattle.scheme.specs.declared.Answer.TheVariants.{Done, UnknownSet, WrongLength, WrongSecret, NotOpened, Malformed as Answer-Malformed, Singular as Answer-Singular}
+use Rattle.scheme.specs.declared.Answer.TheVariants.{Done, UnknownSet, WrongLength, WrongSecret, NotOpened, Malformed as AnswerMalformed, Singular as AnswerSingular}
 use Rattle.scheme.specs.Opening.{Opens}
 use Rattle.scheme.specs.Calls.{zeroed, open_lengths, Opening, GivesSecret, OpenOf, OpenEnds, UnwrapOf, UnwrapEnds}
 use Rattle.opening.specs.declared.Opened.{Opened}
@@ -55,12 +54,12 @@ module _ (s : Set) (key cipher work : List ℕ) (r : Opened) (msg work₁ : List
   module _ (w : OpenedWiped s key cipher work r msg work₁) where
     -- the refusals, whatever the output is
     module _ (Gives : List ℕ → Type 0) (out out₁ : List ℕ) (same : length out₁ ≡ length out) (b : Answer) (out₂ : List ℕ) where
-      pub is-malformed : r ≡ Malformed → Withheld Answer-Malformed b out₁ out₂ → Opening s key cipher Gives out work b out₂ work₁
+      pub is-malformed : r ≡ Malformed → Withheld AnswerMalformed b out₁ out₂ → Opening s key cipher Gives out work b out₂ work₁
       is-malformed e f =
           let o : OpensAs s key cipher Malformed msg = rw e at w.opens in
           record { case = rw f.answer (o, f.nothing ∙ zeroed-as out out₁ same); wiped = w.wiped }
 
-      pub is-singular : r ≡ Singular → Withheld Answer-Singular b out₁ out₂ → Opening s key cipher Gives out work b out₂ work₁
+      pub is-singular : r ≡ Singular → Withheld AnswerSingular b out₁ out₂ → Opening s key cipher Gives out work b out₂ work₁
       is-singular e f =
           let o : OpensAs s key cipher Singular msg = rw e at w.opens in
           record { case = rw f.answer (o.0, o.1, f.nothing ∙ zeroed-as out out₁ same); wiped = w.wiped }
@@ -90,10 +89,10 @@ module _ (s : Set) (key cipher work : List ℕ) (r : Opened) (msg work₁ : List
           let o : OpensAs s key cipher Message msg = rw e at w.opens in
           record { case = rw f.answer (refl, o.0, o.1, (msg, o.2, f.first)); wiped = w.wiped }
 
-      pub secret-malformed : r ≡ Malformed → Withheld Answer-Malformed b secret secret₂ → Opening s key cipher (GivesSecret s key cipher (length secret)) secret work b secret₂ work₁
+      pub secret-malformed : r ≡ Malformed → Withheld AnswerMalformed b secret secret₂ → Opening s key cipher (GivesSecret s key cipher (length secret)) secret work b secret₂ work₁
       secret-malformed e f = is-malformed Gives secret secret refl b secret₂ e f
 
-      pub secret-singular : r ≡ Singular → Withheld Answer-Singular b secret secret₂ → Opening s key cipher (GivesSecret s key cipher (length secret)) secret work b secret₂ work₁
+      pub secret-singular : r ≡ Singular → Withheld AnswerSingular b secret secret₂ → Opening s key cipher (GivesSecret s key cipher (length secret)) secret work b secret₂ work₁
       secret-singular e f = is-singular Gives secret secret refl b secret₂ e f
 
       pub secret-not : r ≡ Not → Withheld NotOpened b secret secret₂ → Opening s key cipher (GivesSecret s key cipher (length secret)) secret work b secret₂ work₁

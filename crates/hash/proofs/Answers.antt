@@ -1,5 +1,5 @@
 -- The cases of the calls' answers, and that a contract leaves one answer and one slice afterwards.
-use Rattle.std.proofs.Common.{◌≡◌, ℕ, ◌<◌, ◌≤◌, List, ◌++◌, length, take, drop, sym, refl, ◌∙◌, ap₂, append-nil, arith, drop_of_length-le, take_all}
+use Rattle.std.proofs.Common.{◌≡◌, ℕ, ◌<◌, ◌≤◌, List, length, sym, refl, ◌∙◌, arith}
 use native.Mathlib.Decide.{ℕ_discrete, dec_lt}
 use Rattle.hash.specs.declared.calls.Answer.{Answer}
 use Rattle.hash.specs.declared.calls.Answer.TheVariants.{Done, Refused}

@@ -7,7 +7,7 @@ use Rattle.perm.specs.Perm.{Perm}
 use Rattle.sets.specs.declared.Set.{Set}
 use Rattle.sets.specs.Valid.{Valid}
 use Rattle.linear.specs.Elimination.{Done, eliminated}
-use Rattle.scheme.specs.declared.Answer.TheVariants.{FewMultipliers as Answer-FewMultipliers, FewElements as Answer-FewElements, NoWindow as Answer-NoWindow, Dependent as Answer-Dependent}
+use Rattle.scheme.specs.declared.Answer.TheVariants.{FewMultipliers as AnswerFewMultipliers, FewElements as AnswerFewElements, NoWindow as AnswerNoWindow, Dependent as AnswerDependent}
 use Rattle.scheme.specs.Lists.{inverse_of}
 use Rattle.scheme.specs.Field.{field_of}
 use Rattle.scheme.specs.Matrices.{listed}
@@ -88,7 +88,7 @@ pub record Given (s : Set) (random public private work : List ℕ) : Type 0 wher
 -- what `make` answers, and what the keys hold then
 abbrev pub Makes : Set → List ℕ → Made → List ℕ → List ℕ → Type 0
 Makes s random (Pair count) public private = setup s random ≡ made public private count
-Makes s random FewMultipliers public private = setup s random ≡ fails Answer-FewMultipliers
-Makes s random FewElements public private = setup s random ≡ fails Answer-FewElements
-Makes s random NoWindow public private = setup s random ≡ fails Answer-NoWindow
-Makes s random Dependent public private = setup s random ≡ fails Answer-Dependent
+Makes s random FewMultipliers public private = setup s random ≡ fails AnswerFewMultipliers
+Makes s random FewElements public private = setup s random ≡ fails AnswerFewElements
+Makes s random NoWindow public private = setup s random ≡ fails AnswerNoWindow
+Makes s random Dependent public private = setup s random ≡ fails AnswerDependent

@@ -1,11 +1,11 @@
 -- What the code's steps leave is what the definitions say, and unpadding has one answer.
 use mathlib.Core.Path.{◌≡◌, refl, sym, ap, ap₂, ◌∙◌}
-use mathlib.Core.List.{List, ◌++◌, append-nil, append_assoc}
-use Prim.Native.Nat.{ℕ, ◌+◌, ◌-◌, ◌≤◌, ◌<◌}
+use mathlib.Core.List.{List, ◌++◌, append_assoc}
+use Prim.Native.Nat.{ℕ, ◌+◌, ◌-◌, ◌<◌}
 use native.Mathlib.Nat.{add-sub_cancel_left, sub-zero}
 use native.Mathlib.Omega.{arith}
-use lib.ListN.{length, take, drop, replicate, length-append, length-drop, length-replicate, drop_of_length-le, take-append-drop}
-use lib.Seq.{take_at, drop_at, take-length}
+use lib.ListN.{length, take, drop, replicate, length-append, length-drop, length-replicate, take-append-drop}
+use lib.Seq.{take_at, drop_at}
 use Rattle.lists.specs.Parts.{part}
 use Rattle.sets.specs.declared.Set.{Set}
 use Rattle.hash.specs.Mask.{mgf, xored}

@@ -5,7 +5,7 @@ use Prim.Native.Nat.{ℕ, ◌+◌, ◌-◌, ◌≤◌}
 use native.Mathlib.Nat.{add-sub_cancel_left, sub-zero}
 use native.Mathlib.Omega.{arith}
 use lib.ListN.{length, take, drop, replicate, length-append, length-drop, length-replicate, drop_of_length-le, replicate-append-replicate}
-use lib.Seq.{take_all, take_at, drop_at, take-length, length-take-le}
+use lib.Seq.{take_all, take_at, drop_at, length-take-le}
 use Rattle.lists.specs.Parts.{part, put}
 use Rattle.lists.proofs.Parts.{part_length}
 use Rattle.hash.specs.Mask.{mgf, xored}

@@ -3,7 +3,7 @@ use Rattle.std.specs.Prelude.{◌≡◌, ℕ}
 use Rattle.bits.specs.declared.Answer.{Answer}
 use Rattle.bits.specs.Answer.{number_of}
 use Rattle.hash.specs.declared.calls.Answer.{Answer as HashAnswer}
-use Rattle.hash.specs.Answers.{number_of as hashNumberOf}
+use Rattle.hash.specs.Answers.{number_of as hash_number_of}
 use Rattle.scheme.specs.declared.Answer.{Answer as CallAnswer}
 use Rattle.scheme.specs.Answers.{coded}
 
@@ -14,7 +14,7 @@ pub record Coded (Promise : Answer → Type 0) (r : ℕ) : Type 0 where
 
 pub record HashCoded (Promise : HashAnswer → Type 0) (r : ℕ) : Type 0 where
   pub answer : HashAnswer
-  pub number : r ≡ hashNumberOf answer
+  pub number : r ≡ hash_number_of answer
   pub holds : Promise answer
 
 -- of the five calls: the number, and 256 times the count
