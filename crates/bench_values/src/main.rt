@@ -1,5 +1,5 @@
-// The five calls on stored cases: 01's bench values that are not proved by computation, every answer number of set 6, round trips, and the
-// order of refusals. A line each: the case, the number that 01 states, the answer, what the lent outputs hold afterwards (the start of a
+// The five calls on stored cases: the bench values that are not proved by computation, every answer number of set 6, round trips, and the
+// order of refusals. A line each: the case, the number that is expected, the answer, what the lent outputs hold afterwards (the start of a
 // digest where they are full), and the work area. scripts/stored-cases makes the cases and the expected output with another implementation.
 //
 // A case is a head of sixteen bytes, its label, and three inputs, some of them empty.
@@ -7,10 +7,15 @@
 
 ghost use Rattle.std.specs.Prelude.{◌≡◌, ◌<◌, length};
 
-use libc::{STDIN_FILENO, STDOUT_FILENO};
 use scheme::Answer;
 
-// The head of a case: the call, the set byte for setup, the number that 01 states, and the lengths of label, inputs and lent slices.
+// The number of standard input.
+const STDIN: i32 = 0;
+
+// The number of standard output.
+const STDOUT: i32 = 1;
+
+// The head of a case: the call, the set byte for setup, the number that is expected, and the lengths of label, inputs and lent slices.
 #[derive(Clone, Copy)]
 struct Case {
     call: u8,
@@ -74,7 +79,7 @@ fn read_bytes(s: &mut [u8], n: usize) -> bool {
     if s.len() < n {
         return false;
     }
-    io::read_full(STDIN_FILENO, &mut s[0..n]) == n
+    io::read_full(STDIN, &mut s[0..n]) == n
 }
 
 fn print_first(s: &[u8], n: usize) {
@@ -143,14 +148,14 @@ fn print_work(s: &[u16]) {
 
 fn print_answer(expected: u8, answer: Answer) {
     vectors::text(b": expected ");
-    io::print_decimal(STDOUT_FILENO, expected as u64);
+    io::print_decimal(STDOUT, expected as u64);
     vectors::text(b", got ");
-    io::print_decimal(STDOUT_FILENO, files::number(answer));
+    io::print_decimal(STDOUT, files::number(answer));
     let Answer::Done(count) = answer else {
         return;
     };
     vectors::text(b" count ");
-    io::print_decimal(STDOUT_FILENO, count as u64);
+    io::print_decimal(STDOUT, count as u64);
 }
 
 fn call(
@@ -276,7 +281,7 @@ fn with_first(c: Case) -> bool {
 // One case more; false where the input ends.
 fn one() -> bool {
     let mut head = [0u8; 16];
-    if io::read_full(STDIN_FILENO, &mut head) < 16 {
+    if io::read_full(STDIN, &mut head) < 16 {
         return false;
     }
     let c = case_of(&head);

@@ -8,7 +8,12 @@ ghost use Rattle.std.specs.Prelude.{◌≡◌, ◌+◌, ◌<◌, ◌≤◌, ◌^
 ghost use Rattle.bits.specs.Answer.{number_of};
 
 use bits::Answer;
-use libc::{STDIN_FILENO, STDOUT_FILENO};
+
+// The number of standard input.
+const STDIN: i32 = 0;
+
+// The number of standard output.
+const STDOUT: i32 = 1;
 
 fn number_of(a: Answer) -> u64
     ensures { result ≡ number_of a }
@@ -20,18 +25,18 @@ fn number_of(a: Answer) -> u64
 }
 
 fn word(n: u64) {
-    io::write_all(STDOUT_FILENO, b" ");
-    io::print_decimal(STDOUT_FILENO, n);
+    io::write_all(STDOUT, b" ");
+    io::print_decimal(STDOUT, n);
 }
 
 fn start(kind: u8, a: Answer) {
-    io::print_decimal(STDOUT_FILENO, kind as u64);
+    io::print_decimal(STDOUT, kind as u64);
     word(number_of(a));
-    io::write_all(STDOUT_FILENO, b":");
+    io::write_all(STDOUT, b":");
 }
 
 fn end() {
-    io::write_all(STDOUT_FILENO, b"\n");
+    io::write_all(STDOUT, b"\n");
 }
 
 fn entry(s: &[u16], i: usize) -> u64
@@ -192,7 +197,7 @@ fn case(
     if 65538 < b {
         return false;
     }
-    if io::read_full(STDIN_FILENO, &mut input[..a]) < a {
+    if io::read_full(STDIN, &mut input[..a]) < a {
         return false;
     }
     let h = between(kind, a, b);
@@ -215,7 +220,7 @@ fn main() {
     let mut out_bytes = bytes();
     let mut i: usize = 0;
     while i < 1000000 {
-        if io::read_full(STDIN_FILENO, &mut head) < 8 {
+        if io::read_full(STDIN, &mut head) < 8 {
             break;
         }
         let m = wide(head[1]);

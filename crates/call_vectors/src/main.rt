@@ -11,8 +11,13 @@ mod seeded;
 
 ghost use Rattle.std.specs.Prelude.{◌≡◌, ◌+◌, ◌<◌, ◌≤◌, length};
 
-use libc::{STDIN_FILENO, STDOUT_FILENO};
 use scheme::Answer;
+
+// The number of standard input.
+const STDIN: i32 = 0;
+
+// The number of standard output.
+const STDOUT: i32 = 1;
 
 fn wide(x: u8) -> usize
     ensures { result < 256 }
@@ -84,7 +89,7 @@ fn all_are(s: &[u16], v: u16) -> bool {
 fn fetch(s: &mut [u8], n: usize) -> bool
     requires { n ≤ length s.old }
 {
-    let got = io::read_full(STDIN_FILENO, &mut s[..n]);
+    let got = io::read_full(STDIN, &mut s[..n]);
     got == n
 }
 
@@ -301,17 +306,17 @@ fn score(i: usize, agrees: bool) -> usize
     if agrees {
         return 1;
     }
-    io::write_all(STDOUT_FILENO, b"case ");
-    io::print_decimal(STDOUT_FILENO, i as u64);
-    io::write_all(STDOUT_FILENO, b" differs\n");
+    io::write_all(STDOUT, b"case ");
+    io::print_decimal(STDOUT, i as u64);
+    io::write_all(STDOUT, b" differs\n");
     0
 }
 
 fn sum_up(agree: usize, all: usize) {
-    io::print_decimal(STDOUT_FILENO, agree as u64);
-    io::write_all(STDOUT_FILENO, b" of ");
-    io::print_decimal(STDOUT_FILENO, all as u64);
-    io::write_all(STDOUT_FILENO, b" cases agree\n");
+    io::print_decimal(STDOUT, agree as u64);
+    io::write_all(STDOUT, b" of ");
+    io::print_decimal(STDOUT, all as u64);
+    io::write_all(STDOUT, b" cases agree\n");
 }
 
 fn numbers() -> [u16; 65536]
@@ -332,7 +337,7 @@ fn main() {
     let mut agree: usize = 0;
     let mut i: usize = 0;
     while i < 100000 {
-        if io::read_full(STDIN_FILENO, &mut head) < 17 {
+        if io::read_full(STDIN, &mut head) < 17 {
             break;
         }
         let agrees = case(

@@ -4,7 +4,7 @@ ghost use Rattle.scheme.specs.Answers.{number_of};
 
 use scheme::Answer;
 
-// Paper 01's number of an answer.
+// The number of an answer.
 pub fn number(a: Answer) -> u8
     ensures { result ≡ number_of a }
 {

@@ -6,7 +6,9 @@ ghost use Rattle.std.specs.Prelude.{◌≡◌, ℕ, ◌+◌, ◌≤◌, ◌<◌,
 
 use code::Decoded;
 use decoder::decoded;
-use libc::STDOUT_FILENO;
+
+// The number of standard output.
+const STDOUT: i32 = 1;
 
 // The next of a run of numbers that look random.
 fn next(x: u32) -> u32
@@ -79,15 +81,15 @@ fn spoil(area: &mut [u16], n: usize, e: usize, seed: u32)
 fn print_word(word: &[u16]) {
     let mut i = 0;
     while i < word.len() {
-        io::write_all(STDOUT_FILENO, b" ");
-        io::print_decimal(STDOUT_FILENO, wide(word[i]));
+        io::write_all(STDOUT, b" ");
+        io::print_decimal(STDOUT, wide(word[i]));
         i += 1;
     }
 }
 
 fn print_number(x: usize) {
-    io::print_decimal(STDOUT_FILENO, wider(x));
-    io::write_all(STDOUT_FILENO, b" ");
+    io::print_decimal(STDOUT, wider(x));
+    io::write_all(STDOUT, b" ");
 }
 
 // One case: a code word, e places struck, decoded and printed.
@@ -101,12 +103,12 @@ fn case(area: &mut [u16], work: &mut [u16], n: usize, t: usize, e: usize)
     print_number(e);
     let word = &mut area[0..n];
     let Decoded::Word = decoded(word, t, work) else {
-        io::write_all(STDOUT_FILENO, b"none\n");
+        io::write_all(STDOUT, b"none\n");
         return;
     };
-    io::write_all(STDOUT_FILENO, b"word");
+    io::write_all(STDOUT, b"word");
     print_word(word);
-    io::write_all(STDOUT_FILENO, b"\n");
+    io::write_all(STDOUT, b"\n");
 }
 
 // All cases of a code: from no place struck to `most`.

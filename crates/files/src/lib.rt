@@ -1,11 +1,28 @@
 // What the programs `setup`, `seal` and `open` share: files that their arguments name, and the one line that they print.
 #![tactic(auto)]
 
-ghost use Rattle.std.specs.Prelude.{◌≡◌, ◌+◌, ◌≤◌, length};
+ghost use Rattle.std.specs.Prelude.{◌≡◌, ◌≤◌, length, IfOk};
 ghost use Rattle.scheme.specs.Answers.{number_of};
 
-use libc::{STDERR_FILENO, STDOUT_FILENO};
 use scheme::Answer;
+use std::env::{Env, FillError};
+use std::fs::{File, OpenFile, OpenOptions, Permissions};
+use std::io::{Error, Read, Write};
+use std::os::unix::fs::{OpenOptionsExt, PermissionsExt};
+use std::rt::{Files, Runtime};
+
+// The number of standard output.
+const STDOUT: i32 = 1;
+
+// The number of standard error.
+const STDERR: i32 = 2;
+
+// The system's numbers of the errors that a file's name comes to: there is none, it is too long, and it is not text.
+const NO_ARGUMENT: i32 = 22;
+
+const LONG_NAME: i32 = 36;
+
+const NOT_TEXT: i32 = 84;
 
 // What reading a file comes to: whether it went well, and how many bytes of the file are at the start of the slice. If it did not go
 // well, standard error says why.
@@ -15,137 +32,151 @@ pub struct Input {
     pub count: usize,
 }
 
+// Whether argument i is there; it may be empty.
+fn has_arg(rt: &impl Env, i: usize) -> bool {
+    let mut none = [0u8; 0];
+    match rt.arg(i, &mut none) {
+        Err(FillError::NotPresent) => false,
+        _ => true,
+    }
+}
+
 // Whether the program was started with as many arguments as it takes; if not, standard error says how to call it.
-pub fn called_with(count: usize, usage: &[u8]) -> bool {
-    if os::arg_count() == count {
+pub fn called_with(rt: &impl Runtime, count: usize, usage: &[u8]) -> bool {
+    if !has_arg(rt, count) && (count == 0 || has_arg(rt, count - 1)) {
         return true;
     }
-    io::write_all(STDERR_FILENO, usage);
+    io::write_all(STDERR, usage);
     false
 }
 
-// What one call of the system reads, from a place of the slice on.
-fn read_part(fd: i32, buf: &mut [u8], from: usize) -> Input
-    requires { from ≤ length buf.old }
-    ensures { from + result.count ≤ length buf.old }
-{
-    let rest = &mut buf[from..];
-    let got = libc::read(fd, rest);
-    if got < 0 {
-        return Input {
-            fine: false,
-            count: 0,
-        };
+// The system's words for an error, without the number that std adds to them.
+fn words(text: &str) -> &str {
+    match text.split_once(" (os error ") {
+        Some((front, _)) => front,
+        None => text,
     }
-    let n = io::count(got, rest);
-    Input {
-        fine: true,
-        count: n,
+}
+
+// Says on standard error what failed, and why; with std's number where there is no memory for the words alone.
+fn fail(rt: &impl Runtime, what: &str, error: Error) {
+    let Ok(text) = format!(in rt.alloc(); "{error}") else {
+        let _ = eprintln!(rt; "{what}: {error}");
+        return;
+    };
+    let why = words(text.as_str());
+    let _ = eprintln!(rt; "{what}: {why}");
+}
+
+// Argument i, at the start of the slice.
+fn name<'a>(rt: &impl Env, i: usize, buf: &'a mut [u8]) -> std::io::Result<&'a str> {
+    let n = match rt.arg(i, buf) {
+        Ok(n) => n,
+        Err(FillError::NotPresent) => return Err(Error::from_raw_os_error(NO_ARGUMENT)),
+        Err(FillError::TooLong) => return Err(Error::from_raw_os_error(LONG_NAME)),
+    };
+    match std::str::from_utf8(&buf[..n]) {
+        Ok(text) => Ok(text),
+        Err(_) => Err(Error::from_raw_os_error(NOT_TEXT)),
     }
 }
 
 // Reads to the end of the file, or until the slice is full.
-fn fill(fd: i32, path: &[u8], buf: &mut [u8]) -> Input
-    ensures { result.count ≤ length buf.old }
+fn fill(file: &mut impl Read, buf: &mut [u8]) -> std::io::Result<usize>
+    ensures { IfOk result (λ n. n ≤ length buf.old) }
 {
     let mut done: usize = 0;
     while done < buf.len() {
-        let part = read_part(fd, buf, done);
-        let fine = part.fine;
-        let n = part.count;
-        if !fine {
-            os::fail(path);
-            return Input {
-                fine: false,
-                count: 0,
-            };
-        }
+        let n = file.read(&mut buf[done..])?;
         if n == 0 {
             break;
         }
         done += n;
     }
-    Input {
-        fine: true,
-        count: done,
-    }
+    Ok(done)
 }
 
-fn read_named(path: &[u8], buf: &mut [u8]) -> Input
-    ensures { result.count ≤ length buf.old }
+fn read_named(rt: &impl Files, path: &str, buf: &mut [u8]) -> std::io::Result<usize>
+    ensures { IfOk result (λ n. n ≤ length buf.old) }
 {
-    let fd = os::open_read(path);
-    if fd < 0 {
-        os::fail(path);
-        return Input {
-            fine: false,
-            count: 0,
-        };
+    let mut file = File::open(rt, path)?;
+    fill(&mut file, buf)
+}
+
+fn not_read() -> Input
+    ensures { result.count ≡ 0 }
+{
+    Input {
+        fine: false,
+        count: 0,
     }
-    let input = fill(fd, path, buf);
-    libc::close(fd);
-    input
 }
 
 // The bytes of the file that argument i names. A file that is longer than the slice fills it, so a slice that is one byte
 // longer than the file should be shows a longer one.
-pub fn read(i: usize, buf: &mut [u8]) -> Input
+pub fn read(rt: &impl Runtime, i: usize, buf: &mut [u8]) -> Input
     ensures { result.count ≤ length buf.old }
 {
-    let mut path = io::buffer();
-    let n = os::arg(i, &mut path);
-    if os::errno() != 0 {
-        os::fail(b"file name");
-        return Input {
-            fine: false,
-            count: 0,
-        };
+    let mut space = io::buffer();
+    let path = match name(rt, i, &mut space) {
+        Ok(path) => path,
+        Err(error) => {
+            fail(rt, "file name", error);
+            return not_read();
+        }
+    };
+    match read_named(rt, path, buf) {
+        Ok(count) => Input { fine: true, count },
+        Err(error) => {
+            fail(rt, path, error);
+            not_read()
+        }
     }
-    read_named(&path[..n], buf)
 }
 
 // A file to write: made, or emptied where it is there. A new file for a secret is its owner's alone.
-fn open_output(path: &[u8], secret: bool) -> i32 {
-    let fd = os::create(path);
-    if fd < 0 {
-        return os::open_overwrite(path);
-    }
+fn open_output<R: Files>(rt: &R, path: &str, secret: bool) -> std::io::Result<R::File> {
+    let mut how = OpenOptions::new();
+    how.write(true).create_new(true);
     if secret {
-        libc::fchmod(fd, 0o600);
+        how.mode(0o600);
     }
-    fd
+    match how.open(rt, path) {
+        Ok(file) => {
+            if secret {
+                let _ = file.set_permissions(Permissions::from_mode(0o600));
+            }
+            Ok(file)
+        }
+        Err(_) => File::create(rt, path),
+    }
 }
 
-fn write_named(path: &[u8], bytes: &[u8], secret: bool) -> bool {
-    let fd = open_output(path, secret);
-    if fd < 0 {
-        os::fail(path);
-        return false;
-    }
-    if !io::write_all(fd, bytes) {
-        os::fail(path);
-        libc::close(fd);
-        return false;
-    }
-    if libc::close(fd) < 0 {
-        os::fail(path);
-        return false;
-    }
-    true
+fn write_named(rt: &impl Files, path: &str, bytes: &[u8], secret: bool) -> std::io::Result<()> {
+    let mut file = open_output(rt, path, secret)?;
+    file.write_all(bytes)
 }
 
 // Writes the bytes to the file that argument i names and answers true, or says on standard error why not.
-pub fn write(i: usize, bytes: &[u8], secret: bool) -> bool {
-    let mut path = io::buffer();
-    let n = os::arg(i, &mut path);
-    if os::errno() != 0 {
-        os::fail(b"file name");
-        return false;
+pub fn write(rt: &impl Runtime, i: usize, bytes: &[u8], secret: bool) -> bool {
+    let mut space = io::buffer();
+    let path = match name(rt, i, &mut space) {
+        Ok(path) => path,
+        Err(error) => {
+            fail(rt, "file name", error);
+            return false;
+        }
+    };
+    match write_named(rt, path, bytes, secret) {
+        Ok(()) => true,
+        Err(error) => {
+            fail(rt, path, error);
+            false
+        }
     }
-    write_named(&path[..n], bytes, secret)
 }
 
-// 01's number of an answer.
+// The number of an answer, which stands after `refused`.
 pub fn number(answer: Answer) -> u64
     ensures { result ≡ number_of answer }
 {
@@ -167,19 +198,19 @@ pub fn number(answer: Answer) -> u64
 
 // Prints `refused` and the answer's number.
 pub fn print_refused(answer: Answer) {
-    io::write_all(STDOUT_FILENO, b"refused ");
-    io::print_decimal(STDOUT_FILENO, number(answer));
-    io::write_all(STDOUT_FILENO, b"\n");
+    io::write_all(STDOUT, b"refused ");
+    io::print_decimal(STDOUT, number(answer));
+    io::write_all(STDOUT, b"\n");
 }
 
 // Prints `done`.
 pub fn print_done() {
-    io::write_all(STDOUT_FILENO, b"done\n");
+    io::write_all(STDOUT, b"done\n");
 }
 
 // Prints `done` and the count.
 pub fn print_count(count: usize) {
-    io::write_all(STDOUT_FILENO, b"done ");
-    io::print_decimal(STDOUT_FILENO, count as u64);
-    io::write_all(STDOUT_FILENO, b"\n");
+    io::write_all(STDOUT, b"done ");
+    io::print_decimal(STDOUT, count as u64);
+    io::write_all(STDOUT, b"\n");
 }

@@ -4,11 +4,12 @@
 
 ghost use Rattle.std.specs.Prelude.{◌+◌, ◌*◌, ◌<◌, ◌≤◌, ◌^◌, length};
 
-use libc::STDOUT_FILENO;
+// The number of standard output.
+const STDOUT: i32 = 1;
 
 fn word(n: u64) {
-    io::write_all(STDOUT_FILENO, b" ");
-    io::print_decimal(STDOUT_FILENO, n);
+    io::write_all(STDOUT, b" ");
+    io::print_decimal(STDOUT, n);
 }
 
 fn wide(x: u16) -> u64 {
@@ -31,7 +32,7 @@ fn one_by_one(bytes: &[u8], m: usize)
         word(wide(reader::element(bytes, m, bit)));
         bit += m;
     }
-    io::write_all(STDOUT_FILENO, b"\n");
+    io::write_all(STDOUT, b"\n");
 }
 
 fn at_once(bytes: &[u8], m: usize, out: &mut [u16])
@@ -39,9 +40,9 @@ fn at_once(bytes: &[u8], m: usize, out: &mut [u16])
 {
     let end = reader::elements(bytes, m, 3, out);
     show(out);
-    io::write_all(STDOUT_FILENO, b" to");
+    io::write_all(STDOUT, b" to");
     word(end as u64);
-    io::write_all(STDOUT_FILENO, b"\n");
+    io::write_all(STDOUT, b"\n");
 }
 
 fn both(bytes: &[u8], m: usize)

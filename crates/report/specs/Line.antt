@@ -1,4 +1,4 @@
--- 01, Bench values, program `sizes`: a line names a set if it is exactly two lower-case hex digits of a known set byte.
+-- The rule of the program `sizes`: a line names a set if it is exactly two lower-case hex digits of a known set byte.
 use Rattle.std.specs.Prelude.{◌≡◌, List, ℕ, ◌+◌, ◌-◌, ◌*◌, min, eqb, leb, ltb, length, get_or}
 use Rattle.lists.specs.Loops.{pick}
 use Rattle.sets.specs.declared.Named.{Named}

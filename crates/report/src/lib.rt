@@ -4,8 +4,11 @@
 ghost use Rattle.std.specs.Prelude.{◌≡◌, List, [], ◌∷◌, ◌++◌, ℕ, ◌+◌, ◌<◌, ◌≤◌, length};
 ghost use Rattle.report.specs.Line.{hex_digit, set_of_digits, set_of_line, Keeps};
 
-use libc::{STDIN_FILENO, STDOUT_FILENO};
 use sets::{Named, Set};
+use std::io::{Error, Read};
+
+// The number of standard output.
+const STDOUT: i32 = 1;
 
 // The value of a lower-case hex digit, and 16 for any other byte.
 fn hex_digit(c: u8) -> u8
@@ -151,14 +154,14 @@ fn describe(out: &mut [u8], s: Set) -> usize {
 // Writes the first n bytes.
 fn write_first(s: &[u8], n: usize) {
     if n <= s.len() {
-        io::write_all(STDOUT_FILENO, &s[..n]);
+        io::write_all(STDOUT, &s[..n]);
     }
 }
 
 // What is written for a line.
 fn answer(line: Line) {
     let Named::Known(s) = line.names() else {
-        io::write_all(STDOUT_FILENO, b"refused 1\n");
+        io::write_all(STDOUT, b"refused 1\n");
         return;
     };
     let mut space = [0u8; 160];
@@ -186,23 +189,38 @@ fn feed(line: Line, s: &[u8]) -> Line {
     now
 }
 
+// The system's words for an error, without the number that std adds to them.
+fn words(text: &str) -> &str {
+    match text.split_once(" (os error ") {
+        Some((front, _)) => front,
+        None => text,
+    }
+}
+
+// Says on standard error what failed, and why; with std's number where there is no memory for the words alone.
+fn fail(rt: &(impl Eprint + Alloc), what: &str, error: Error) {
+    let Ok(text) = format!(in rt.alloc(); "{error}") else {
+        let _ = eprintln!(rt; "{what}: {error}");
+        return;
+    };
+    let why = words(text.as_str());
+    let _ = eprintln!(rt; "{what}: {why}");
+}
+
 // Answers each line of standard input; a last one with no line feed counts if it is not empty.
-pub fn run() {
+pub fn run(rt: &(impl Input + Eprint + Alloc)) {
     let mut space = io::large_buffer();
     let mut line = Line::new();
-    let mut turns: usize = 18446744073709551615;
-    while 0 < turns {
-        let got = libc::read(STDIN_FILENO, &mut space);
-        if got < 0 {
-            os::fail(b"standard input");
-            return;
+    let mut input = rt.reader();
+    for _ in 0..u64::MAX {
+        match input.read(&mut space) {
+            Err(error) => {
+                fail(rt, "standard input", error);
+                return;
+            }
+            Ok(0) => break,
+            Ok(n) => line = feed(line, &space[..n]),
         }
-        let n = io::count(got, &space);
-        if n == 0 {
-            break;
-        }
-        line = feed(line, &space[..n]);
-        turns -= 1;
     }
     let count = line.count;
     if 0 < count {

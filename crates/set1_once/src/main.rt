@@ -4,8 +4,10 @@
 
 ghost use Rattle.std.specs.Prelude.{◌≡◌, length};
 
-use libc::STDOUT_FILENO;
 use scheme::Answer;
+
+// The number of standard output.
+const STDOUT: i32 = 1;
 
 // The slices that set 1 takes. The lengths are told, since the check does not count so far.
 fn public_room() -> [u8; 118441]
@@ -34,13 +36,13 @@ fn random_room() -> [u8; 48617]
 
 fn print_answer(name: &[u8], answer: Answer) {
     vectors::text(name);
-    io::print_decimal(STDOUT_FILENO, files::number(answer));
+    io::print_decimal(STDOUT, files::number(answer));
     let Answer::Done(count) = answer else {
         vectors::text(b"\n");
         return;
     };
     vectors::text(b" count ");
-    io::print_decimal(STDOUT_FILENO, count as u64);
+    io::print_decimal(STDOUT, count as u64);
     vectors::text(b"\n");
 }
 

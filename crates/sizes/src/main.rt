@@ -1,6 +1,6 @@
-// Reads set bytes, a line each, and prints the numbers of each set (paper 01, Bench values).
+// Reads set bytes, a line each, and prints the numbers of each set, or a refusal where a line names none.
 #![tactic(auto)]
 
-fn main() {
-    report::run();
+fn main(rt: HostRuntime) {
+    report::run(&rt);
 }

@@ -1,6 +1,6 @@
 // `sizes` once more, on lines that are not as they should be.
 #![tactic(auto)]
 
-fn main() {
-    report::run();
+fn main(rt: HostRuntime) {
+    report::run(&rt);
 }

@@ -1,7 +1,8 @@
 // What test programs share: a pattern of bytes to work on, and lines on standard output.
 #![tactic(auto)]
 
-use libc::STDOUT_FILENO;
+// The number of standard output.
+const STDOUT: i32 = 1;
 
 fn wide(x: u8) -> u64 {
     x as u64
@@ -17,12 +18,12 @@ pub fn pattern(s: &mut [u8]) {
 }
 
 pub fn text(s: &[u8]) {
-    io::write_all(STDOUT_FILENO, s);
+    io::write_all(STDOUT, s);
 }
 
 // A number, and a blank.
 pub fn number(n: usize) {
-    io::print_decimal(STDOUT_FILENO, n as u64);
+    io::print_decimal(STDOUT, n as u64);
     text(b" ");
 }
 
@@ -30,7 +31,7 @@ pub fn number(n: usize) {
 pub fn hex(s: &[u8]) {
     let mut i: usize = 0;
     while i < s.len() {
-        io::print_hex(STDOUT_FILENO, wide(s[i]), 2);
+        io::print_hex(STDOUT, wide(s[i]), 2);
         i += 1;
     }
 }
