@@ -9,7 +9,7 @@ use std::env::{Env, FillError};
 use std::fs::{File, OpenFile, OpenOptions, Permissions};
 use std::io::{Error, Read, Write};
 use std::os::unix::fs::{OpenOptionsExt, PermissionsExt};
-use std::rt::{Files, Runtime};
+use std::rt::Files;
 
 // The number of standard output.
 const STDOUT: i32 = 1;
@@ -42,7 +42,7 @@ fn has_arg(rt: &impl Env, i: usize) -> bool {
 }
 
 // Whether the program was started with as many arguments as it takes; if not, standard error says how to call it.
-pub fn called_with(rt: &impl Runtime, count: usize, usage: &[u8]) -> bool {
+pub fn called_with(rt: &impl Env, count: usize, usage: &[u8]) -> bool {
     if !has_arg(rt, count) && (count == 0 || has_arg(rt, count - 1)) {
         return true;
     }
@@ -59,7 +59,7 @@ fn words(text: &str) -> &str {
 }
 
 // Says on standard error what failed, and why; with std's number where there is no memory for the words alone.
-fn fail(rt: &impl Runtime, what: &str, error: Error) {
+fn fail(rt: &(impl Eprint + Alloc), what: &str, error: Error) {
     let Ok(text) = format!(in rt.alloc(); "{error}") else {
         let _ = eprintln!(rt; "{what}: {error}");
         return;
@@ -114,7 +114,7 @@ fn not_read() -> Input
 
 // The bytes of the file that argument i names. A file that is longer than the slice fills it, so a slice that is one byte
 // longer than the file should be shows a longer one.
-pub fn read(rt: &impl Runtime, i: usize, buf: &mut [u8]) -> Input
+pub fn read(rt: &(impl Env + Files + Eprint + Alloc), i: usize, buf: &mut [u8]) -> Input
     ensures { result.count ≤ length buf.old }
 {
     let mut space = io::buffer();
@@ -158,7 +158,12 @@ fn write_named(rt: &impl Files, path: &str, bytes: &[u8], secret: bool) -> std::
 }
 
 // Writes the bytes to the file that argument i names and answers true, or says on standard error why not.
-pub fn write(rt: &impl Runtime, i: usize, bytes: &[u8], secret: bool) -> bool {
+pub fn write(
+    rt: &(impl Env + Files + Eprint + Alloc),
+    i: usize,
+    bytes: &[u8],
+    secret: bool,
+) -> bool {
     let mut space = io::buffer();
     let path = match name(rt, i, &mut space) {
         Ok(path) => path,

@@ -1,0 +1,9 @@
+-- Each part is not empty and within the slice, so what is left of it falls.
+use Rattle.std.proofs.Common.{◌≤◌, ◌-◌, length}
+use Rattle.files.proofs.fill.Given as goal
+
+abbrev pub invariant-loop-done : goal.invariant-loop-done
+invariant-loop-done g l = l.done ≤ length l.buf
+
+abbrev pub decreases-loop-done : goal.decreases-loop-done
+decreases-loop-done g l = length l.buf - l.done
