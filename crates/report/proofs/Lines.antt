@@ -1,11 +1,11 @@
 -- What the returns of the code say of the definitions, and how what is kept of a line grows with it.
-use mathlib.Core.Path.{◌≡◌, refl, sym, ap, ◌∙◌}
+use mathlib.Core.Path.{◌≡◌, refl, sym, ◌∙◌}
 use mathlib.Core.Logic.{◌≢◌}
 use mathlib.Core.List.{List, [], ◌∷◌, ◌++◌}
-use Prim.Native.Nat.{ℕ, zero, suc, ◌+◌, ◌-◌, ◌*◌, ◌≤◌, ◌<◌, min}
+use Prim.Native.Nat.{ℕ, ◌+◌, ◌-◌, ◌*◌, ◌≤◌, ◌<◌}
 use native.Mathlib.Omega.{arith}
 use borrow.Author.Tests.{le-leb, lt-leb, lt-ltb, le-ltb, eq-eqb, ne_eqb}
-use lib.ListN.{length, get_or, length-append}
+use lib.ListN.{length, length-append}
 use Rattle.sets.specs.declared.Named.{Named}
 use Rattle.sets.specs.declared.Named.TheVariants.{Unknown}
 use Rattle.sets.specs.Table.{set_of}
