@@ -1,0 +1,6 @@
+-- The length is that of a repeat.
+use Rattle.set1_once.proofs.Repeats.{told}
+use Rattle.set1_once.proofs.random_room.Goals as goal
+
+pub returns : goal.returns
+returns c = told 48617 0
