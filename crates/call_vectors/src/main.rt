@@ -131,8 +131,8 @@ fn call_written(
     q: &mut [u8],
     work: &mut [u16],
 ) -> Answer
-    requires in_bounds { 17 ≤ length head.now }
-    requires in_bounds_2 { (65536 ≤ length p.old) × (65536 ≤ length q.old) × (65536 ≤ length work.old) }
+    requires head_long { 17 ≤ length head.now }
+    requires outputs { (65536 ≤ length p.old) × (65536 ≤ length q.old) × (65536 ≤ length work.old) }
 {
     let d = length_at(head, 3);
     let e = length_at(head, 4);
@@ -159,9 +159,9 @@ fn call_cut(
     q: &mut [u8],
     work: &mut [u16],
 ) -> Answer
-    requires in_bounds { 17 ≤ length head.now }
-    requires in_bounds_2 { (65536 ≤ length x.now) × (65536 ≤ length y.now) × (65536 ≤ length z.now) }
-    requires in_bounds_3 { (65536 ≤ length p.old) × (65536 ≤ length q.old) × (65536 ≤ length work.old) }
+    requires head_long { 17 ≤ length head.now }
+    requires inputs { (65536 ≤ length x.now) × (65536 ≤ length y.now) × (65536 ≤ length z.now) }
+    requires outputs { (65536 ≤ length p.old) × (65536 ≤ length q.old) × (65536 ≤ length work.old) }
 {
     let a = length_at(head, 0);
     let b = length_at(head, 1);
@@ -171,8 +171,8 @@ fn call_cut(
 
 // Reads the inputs of a case.
 fn inputs(head: &[u8], x: &mut [u8], y: &mut [u8], z: &mut [u8]) -> bool
-    requires in_bounds { 17 ≤ length head.now }
-    requires in_bounds_2 { (65536 ≤ length x.old) × (65536 ≤ length y.old) × (65536 ≤ length z.old) }
+    requires head_long { 17 ≤ length head.now }
+    requires inputs { (65536 ≤ length x.old) × (65536 ≤ length y.old) × (65536 ≤ length z.old) }
 {
     if !fetch(x, length_at(head, 0)) {
         return false;
@@ -216,8 +216,8 @@ fn answer_is(head: &[u8], a: Answer) -> bool
 
 // Whether all is as it must be after a call; both outputs are read in any case.
 fn judge(head: &[u8], a: Answer, expected: &mut [u8], p: &[u8], q: &[u8], work: &[u16]) -> bool
-    requires in_bounds { 17 ≤ length head.now }
-    requires in_bounds_2 { (65536 ≤ length p.now) × (65536 ≤ length q.now) × (65536 ≤ length work.now) × (65536 ≤ length expected.old) }
+    requires head_long { 17 ≤ length head.now }
+    requires outputs { (65536 ≤ length p.now) × (65536 ≤ length q.now) × (65536 ≤ length work.now) × (65536 ≤ length expected.old) }
 {
     let first = output(length_at(head, 3), expected, p);
     let second = output(length_at(head, 4), expected, q);
@@ -251,9 +251,9 @@ fn made(
     expected: &mut [u8],
     work: &mut [u16],
 ) -> bool
-    requires in_bounds { 17 ≤ length head.now }
-    requires in_bounds_2 { (65536 ≤ length x.now) × (65536 ≤ length y.now) × (65536 ≤ length z.now) }
-    requires in_bounds_3 { (65536 ≤ length p.old) × (65536 ≤ length q.old) × (65536 ≤ length work.old) × (65536 ≤ length expected.old) }
+    requires head_long { 17 ≤ length head.now }
+    requires inputs { (65536 ≤ length x.now) × (65536 ≤ length y.now) × (65536 ≤ length z.now) }
+    requires outputs { (65536 ≤ length p.old) × (65536 ≤ length q.old) × (65536 ≤ length work.old) × (65536 ≤ length expected.old) }
 {
     let a = call_cut(head, x, y, z, p, q, work);
     judge(head, a, expected, p, q, work)
@@ -270,9 +270,9 @@ fn filled(
     expected: &mut [u8],
     work: &mut [u16],
 ) -> bool
-    requires in_bounds { 17 ≤ length head.now }
-    requires in_bounds_2 { (65536 ≤ length x.now) × (65536 ≤ length y.now) × (65536 ≤ length z.now) }
-    requires in_bounds_3 { (65536 ≤ length p.old) × (65536 ≤ length q.old) × (65536 ≤ length work.old) × (65536 ≤ length expected.old) }
+    requires head_long { 17 ≤ length head.now }
+    requires inputs { (65536 ≤ length x.now) × (65536 ≤ length y.now) × (65536 ≤ length z.now) }
+    requires outputs { (65536 ≤ length p.old) × (65536 ≤ length q.old) × (65536 ≤ length work.old) × (65536 ≤ length expected.old) }
 {
     fill(p, q, work);
     made(head, x, y, z, p, q, expected, work)
@@ -289,9 +289,9 @@ fn case(
     expected: &mut [u8],
     work: &mut [u16],
 ) -> bool
-    requires in_bounds { 17 ≤ length head.now }
-    requires in_bounds_2 { (65536 ≤ length x.old) × (65536 ≤ length y.old) × (65536 ≤ length z.old) }
-    requires in_bounds_3 { (65536 ≤ length p.old) × (65536 ≤ length q.old) × (65536 ≤ length work.old) × (65536 ≤ length expected.old) }
+    requires head_long { 17 ≤ length head.now }
+    requires inputs { (65536 ≤ length x.old) × (65536 ≤ length y.old) × (65536 ≤ length z.old) }
+    requires outputs { (65536 ≤ length p.old) × (65536 ≤ length q.old) × (65536 ≤ length work.old) × (65536 ≤ length expected.old) }
 {
     if !inputs(head, x, y, z) {
         return false;
