@@ -8,6 +8,9 @@ pub returns-then-at-ne0 : goal.returns-then-at-ne0
 unfolding pivot_row
 returns-then-at-ne0 c = (search (first_found, usable-true), search rules, search rules)
 
+pub loop-i-init : goal.loop-i-init
+loop-i-init c = (search rules, search rules, search rules)
+
 pub loop-i-preserved : goal.loop-i-preserved
 loop-i-preserved c = (search rules, search rules, search (first-again, usable-false))
 
