@@ -20,7 +20,7 @@ demo:
 
 # Tables and stored vectors are what the scripts make; the peer's own tests; the library against the peer; the C interface,
 # the Rust bindings and the installed library, with their examples; the programs on whole inputs and files; then the gate
-# itself, which starts from nothing.
+# itself.
 test:
 	scripts/field-tables --check
 	scripts/sha512-constants --check
