@@ -246,7 +246,7 @@ static uint16_t invoke(const struct job *j, struct arena *const in[3], struct ar
     }
 }
 
-/* 1, 2 or 11 where the first checks refuse, else 0 (01, Answer numbers: order) */
+/* 1, 2 or 11 where the first checks refuse, else 0 */
 static int first_checks(const struct job *j)
 {
     if (j->call == SETUP) {

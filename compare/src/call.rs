@@ -210,7 +210,7 @@ impl Side {
     }
 }
 
-/// What is wrong with two outcomes of a call, in words; `None` if they agree and keep the table of paper 01.
+/// What is wrong with two outcomes of a call, in words; `None` if they agree and keep the rules of the answers.
 pub fn fault(call: &Call, library: &Left, peer: &Left) -> Option<String> {
     for (side, left) in [("library", library), ("peer", peer)] {
         if let Some(words) = &left.trespass {
@@ -254,7 +254,7 @@ fn first_difference<T: PartialEq>(one: &[T], other: &[T]) -> Option<usize> {
     one.iter().zip(other).position(|(a, b)| a != b)
 }
 
-/// The rule of 01's answer table that an outcome breaks, if it does.
+/// The rule of its answer that an outcome breaks, if it does.
 fn broken_rule(call: &Call, left: &Left) -> Option<&'static str> {
     let has_work = matches!(
         call.verb,

@@ -1,6 +1,6 @@
 //! Writes the stored cases of the gate's programs below a folder: `cargo run --release --example stored -- FOLDER`.
 //!
-//! `bench_values`: one record for each call, and what the program must print. The number that paper 01 states stands beside
+//! `bench_values`: one record for each call, and what the program must print. The number that is stated for it stands beside
 //! each case; the peer must give it too. `set1_once`: what one run of set 1 must print. `setup`, `seal`, `open`: the files that
 //! the gate hands to these programs.
 

@@ -1,4 +1,4 @@
-//! Bytes, bits, elements and 16-bit numbers (01, Field and bits; 001, 7.2, 7.3 and 7.10).
+//! Bytes, bits, elements and 16-bit numbers (specification, 7.2, 7.3 and 7.10).
 //!
 //! Bits run from each byte's highest bit down; an element's first bit is its coefficient of x^9. Everything here goes
 //! bit by bit, as the rule is written.
@@ -22,14 +22,14 @@ fn bits(bytes: &[u8]) -> impl Iterator<Item = bool> + '_ {
         .flat_map(|byte| (0..8).rev().map(move |place| byte >> place & 1 == 1))
 }
 
-/// Bytes to elements (001, 7.10, B2FE): as many as there are, remaining bits dropped.
+/// Bytes to elements (specification, 7.10, B2FE): as many as there are, remaining bits dropped.
 pub fn unpack(bytes: &[u8]) -> Vec<u16> {
     let mut bits = bits(bytes);
     let mut element = || (&mut bits).take(BITS).fold(0, |sum, bit| sum << 1 | u16::from(bit));
     (0..elements_in(bytes.len())).map(|_| element()).collect()
 }
 
-/// Elements to bytes (001, 7.10, FE2B); spare bits are zero.
+/// Elements to bytes (specification, 7.10, FE2B); spare bits are zero.
 pub fn pack(elements: &[u16]) -> Vec<u8> {
     let mut bytes = vec![0; bytes_for(elements.len())];
     let mut place = 0;
@@ -50,7 +50,7 @@ pub fn spare_bits_are_zero(bytes: &[u8]) -> bool {
     bits(bytes).skip(used).all(|bit| !bit)
 }
 
-/// Bytes to 16-bit numbers, high byte first (001, 7.2); an odd last byte is dropped.
+/// Bytes to 16-bit numbers, high byte first (specification, 7.2); an odd last byte is dropped.
 pub fn to_numbers(bytes: &[u8]) -> Vec<u16> {
     bytes
         .chunks_exact(2)
@@ -58,7 +58,7 @@ pub fn to_numbers(bytes: &[u8]) -> Vec<u16> {
         .collect()
 }
 
-/// 16-bit numbers to bytes, high byte first (001, 7.3).
+/// 16-bit numbers to bytes, high byte first (specification, 7.3).
 pub fn from_numbers(numbers: &[u16]) -> Vec<u8> {
     numbers.iter().flat_map(|number| number.to_be_bytes()).collect()
 }

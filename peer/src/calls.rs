@@ -1,8 +1,8 @@
-//! The public calls: the library's C interface over slices (01, Answer numbers and Lengths that must match).
+//! The public calls: the library's C interface over slices.
 //!
-//! Every call takes slices of any length with any contents, and answers one number: the answer number of 01's table
-//! plus 256 times the count. The count is p + 1 for [`setup`], the number of the random block for [`seal`] and
-//! [`wrap`], and 0 for all others and for all refusals.
+//! Every call takes slices of any length with any contents, and answers one number: the answer's number ([`Refusal`],
+//! 0 when done) plus 256 times the count. The count is p + 1 for [`setup`], the number of the random block for
+//! [`seal`] and [`wrap`], and 0 for all others and for all refusals.
 //!
 //! | answer | output buffers | work area |
 //! |---|---|---|

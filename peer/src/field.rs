@@ -1,12 +1,12 @@
-//! The field GF(2^10) (01, Field and bits; 001, 7.1).
+//! The field GF(2^10) (specification, 7.1).
 //!
 //! An element is a number below 1024 whose bit i is the coefficient of x^i. Addition is exclusive or. Products go
 //! through logarithms to the base α = 2, a root of the modulus x^10 + x^3 + 1.
 //!
 //! The functions in the first half are what the rest of the crate computes with; they take elements, and panic on
-//! larger numbers. The *field calls* in the second half take any numbers and answer `None` where 01 answers no and 0.
+//! larger numbers. The *field calls* in the second half take any numbers and answer `None` where there is no answer.
 
-/// Bits of an element: the m of the papers, 10 in both sets.
+/// Bits of an element: the specification's m, 10 in both sets.
 pub const BITS: usize = 10;
 
 /// How many elements there are.
@@ -15,7 +15,7 @@ pub const SIZE: usize = 1 << BITS;
 /// How many non-zero elements there are; α to this power is 1.
 pub const UNITS: usize = SIZE - 1;
 
-/// x^10 + x^3 + 1 (001, 7.1).
+/// x^10 + x^3 + 1 (specification, 7.1).
 const MODULUS: u16 = 1 << 10 | 1 << 3 | 1;
 
 struct Tables {

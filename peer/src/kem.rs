@@ -1,4 +1,4 @@
-//! The KEM pair around sealing and opening (01, KEM; 001, 6.4).
+//! The KEM pair around sealing and opening (specification, 6.4).
 
 use crate::keys::{PrivateKey, PublicKey};
 use crate::open::open;

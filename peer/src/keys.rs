@@ -1,4 +1,4 @@
-//! Keys and their byte strings (01, Key setup, last paragraph; 001, 6.1.2).
+//! Keys and their byte strings (specification, 6.1.2).
 
 use crate::bits::{from_numbers, pack, spare_bits_are_zero, to_numbers, unpack};
 use crate::matrix::Matrix;

@@ -1,11 +1,11 @@
 //! RLCE wrapping a second time: the independent peer of the proved library.
 //!
-//! This crate computes what paper 01 (`01-scope.md`, "RLCE wrapping: what the library computes") says, on the base of
-//! source document 001 (RLCE-KEM specification, September 14, 2017). It was written from these two papers alone, to be
-//! compared with the proved library byte by byte. Where there are two roads to the same result it takes the other one:
-//! Berlekamp-Massey, Chien search and Forney's formula for decoding, logarithm tables for products, whole matrices for
-//! the chain of key setup, forward elimination and back substitution, packing bit by bit, and SHA-512 with constants
-//! computed from the primes.
+//! This crate computes what the RLCE-KEM specification of September 14, 2017 says, which all comments here call the
+//! specification, with its sections by number; README.md lists where it leaves a choice, and the choice made. It was
+//! written from that alone, to be compared with the proved library byte by byte. Where there are two roads to the same
+//! result it takes the other one: Berlekamp-Massey, Chien search and Forney's formula for decoding, logarithm tables
+//! for products, whole matrices for the chain of key setup, forward elimination and back substitution, packing bit by
+//! bit, and SHA-512 with constants computed from the primes.
 //!
 //! ```
 //! use peer::{open, seal, setup, Set};

@@ -1,8 +1,8 @@
-//! The mask generator (01, Padding; 001, 7.4): SHA-512 of the seed and a counter, as often as needed.
+//! The mask generator (specification, 7.4): SHA-512 of the seed and a counter, as often as needed.
 
 use crate::sha512;
 
-/// The longest seed and the longest mask of the public call (01, Lengths that must match).
+/// The longest seed and the longest mask of the public call.
 pub const LONGEST: usize = 1 << 16;
 
 /// The first `length` bytes of hash(seed ‖ 0) ‖ hash(seed ‖ 1) ‖ ..., the counters as four bytes, high byte first.

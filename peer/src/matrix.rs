@@ -1,9 +1,9 @@
-//! Matrices over the field (001, 7.9): a list of rows, each a list of elements.
+//! Matrices over the field (specification, 7.9): a list of rows, each a list of elements.
 
 use crate::field::{add_multiple, inv, mul, scale};
 use crate::perm::Permutation;
 
-/// A two-by-two block [a, b; c, d] (01, Key setup: blocks).
+/// A two-by-two block [a, b; c, d].
 pub type Block = [[u16; 2]; 2];
 
 /// ad - bc.
@@ -69,18 +69,18 @@ impl Matrix {
         }
     }
 
-    /// Multiplies column j by the j-th factor (001, 6.1.3 step 15).
+    /// Multiplies column j by the j-th factor (specification, 6.1.3 step 15).
     pub fn scale_columns(&self, factors: &[u16]) -> Self {
         self.map_rows(|row| row.iter().zip(factors).map(|(&a, &b)| mul(a, b)).collect())
     }
 
-    /// Permutes columns: new column j is old column `P[j]` (001, 7.9, matrix_col_permutation).
+    /// Permutes columns: new column j is old column `P[j]` (specification, 7.9, matrix_col_permutation).
     pub fn permute_columns(&self, permutation: &Permutation) -> Self {
         self.map_rows(|row| permutation.apply(row))
     }
 
     /// Puts column j of `random` after column n - w + j of this matrix, where n and w are the numbers of columns
-    /// (001, 7.9, matrix_join, with `R[i][j]` where it writes `R[i][d+j]`).
+    /// (specification, 7.9, matrix_join, with `R[i][j]` where it writes `R[i][d+j]`).
     pub fn join(&self, random: &Matrix) -> Self {
         let join_rows = |row: &[u16], random: &[u16]| {
             let (unmixed, first_halves) = row.split_at(row.len() - random.len());
@@ -95,7 +95,7 @@ impl Matrix {
         }
     }
 
-    /// Multiplies the last columns, pair by pair, by the blocks from the right (001, 7.9, matrix_mul_A).
+    /// Multiplies the last columns, pair by pair, by the blocks from the right (specification, 7.9, matrix_mul_A).
     pub fn multiply_pairs(&self, blocks: &[Block]) -> Self {
         self.map_rows(|row| {
             let (unmixed, pairs) = row.split_at(row.len() - 2 * blocks.len());

@@ -1,4 +1,4 @@
-//! Opening (01, Padding, sealing, opening; 001, 6.3 by decoding algorithm 1, and 7.12).
+//! Opening (specification, 6.3 by decoding algorithm 1, and 7.12).
 
 use crate::bits::{pack, spare_bits_are_zero, unpack};
 use crate::field::{inv, mul};
@@ -80,7 +80,7 @@ impl Opener {
         unpad(self.key.set, &padded, &found.places)
     }
 
-    /// Finds message vector, error places and error values of a ciphertext (001, 6.3 steps 5 to 22); `None` if its
+    /// Finds message vector, error places and error values of a ciphertext (specification, 6.3 steps 5 to 22); `None` if its
     /// spare bits are not zero, if no code word is near, or if it does not differ from the word of the vector found in
     /// exactly t places.
     ///
@@ -108,7 +108,7 @@ impl Opener {
         })
     }
 
-    /// From a scrambled word to a word near the Reed-Solomon code (001, 6.3 steps 6 to 10): undo P2, multiply pairs by
+    /// From a scrambled word to a word near the Reed-Solomon code (specification, 6.3 steps 6 to 10): undo P2, multiply pairs by
     /// the stored column and keep one element of each, undo P1, multiply by the stored inverses.
     pub fn undo(&self, word: &[u16]) -> Vec<u16> {
         let unpermuted = self.key.inverse_p2.apply(word);
@@ -121,12 +121,12 @@ impl Opener {
         products(&self.key.inverse_p1.apply(&before_pairs), &self.key.inverses)
     }
 
-    /// From a code word back to the order before P2 (001, 6.3 steps 14 and 15): multiply by v, then permute by P1.
+    /// From a code word back to the order before P2 (specification, 6.3 steps 14 and 15): multiply by v, then permute by P1.
     fn redo(&self, code_word: &[u16]) -> Vec<u16> {
         self.p1.apply(&products(code_word, &self.multipliers))
     }
 
-    /// The message vector (001, 6.3 steps 16 and 18): the J part is read off, the I part solves the system of W.
+    /// The message vector (specification, 6.3 steps 16 and 18): the J part is read off, the I part solves the system of W.
     ///
     /// With zeros for the I part, GE gives at T the share of the J part; what is missing there is the share of the
     /// I part, x_I · W.

@@ -1,4 +1,4 @@
-//! RLCEpad with mediumEncoding (01, Padding; 001, 7.13): a two-round Feistel network over the mask generator.
+//! RLCEpad with mediumEncoding (specification, 7.13): a two-round Feistel network over the mask generator.
 //!
 //! The *places string* is the t error places, rising, two bytes each. It goes into the hashes, not into the padded
 //! string.
@@ -7,7 +7,7 @@ use crate::bits::from_numbers;
 use crate::mask;
 use crate::sets::Set;
 
-/// Pads a message (001, 7.13, RLCEpad).
+/// Pads a message (specification, 7.13, RLCEpad).
 ///
 /// # Panics
 /// If message and seed do not have k1 and k3 bytes.
@@ -40,7 +40,7 @@ pub fn pad_with_check(
     [front, back].concat()
 }
 
-/// Undoes [`pad`] (001, 7.13, RLCEpadDecode); `None` if the check bytes differ.
+/// Undoes [`pad`] (specification, 7.13, RLCEpadDecode); `None` if the check bytes differ.
 ///
 /// The lost bits of the padded string read as zeros here, so the seed's last bits come out wrong; they are forced to
 /// zero again before the seed is used.
@@ -57,7 +57,7 @@ pub fn unpad(set: &Set, padded: &[u8], places: &[u16]) -> Option<Vec<u8>> {
     (check == check_bytes(set, message, &seed_and_places)).then(|| message.to_vec())
 }
 
-/// Sets the seed's last ν bits to zero (001, 7.13 step 4).
+/// Sets the seed's last ν bits to zero (specification, 7.13 step 4).
 fn force_bits(set: &Set, seed: &[u8]) -> Vec<u8> {
     let mut forced = seed.to_vec();
     if let Some(last) = forced.last_mut() {
@@ -66,7 +66,7 @@ fn force_bits(set: &Set, seed: &[u8]) -> Vec<u8> {
     forced
 }
 
-/// The k2 check bytes: the mask of message, seed and places (001, 7.13 step 6).
+/// The k2 check bytes: the mask of message, seed and places (specification, 7.13 step 6).
 fn check_bytes(set: &Set, message: &[u8], seed_and_places: &[u8]) -> Vec<u8> {
     mask::generate(&[message, seed_and_places].concat(), set.k2)
 }

@@ -1,4 +1,4 @@
-//! Permutations of 0..u (01, Key setup: shuffle; 001, 7.8).
+//! Permutations of 0..u (specification, 7.8).
 
 /// The longest list that can be a permutation: its entries are 16-bit numbers.
 pub const LONGEST: usize = 1 << 16;
@@ -17,7 +17,7 @@ impl Permutation {
         Permutation((0..u).map(|i| i as u16).collect())
     }
 
-    /// Shuffles 0..u (001, 7.8, getPermutation): for each number s in turn, the i-th from 0, swaps places i and
+    /// Shuffles 0..u (specification, 7.8, getPermutation): for each number s in turn, the i-th from 0, swaps places i and
     /// i + (s mod (u - i)).
     ///
     /// # Panics
@@ -46,7 +46,7 @@ impl Permutation {
         Some(Permutation(list))
     }
 
-    /// The inverse (001, 7.8, permu_inv): at place `P[i]` it holds i.
+    /// The inverse (specification, 7.8, permu_inv): at place `P[i]` it holds i.
     pub fn inverse(&self) -> Self {
         let mut inverse = vec![0; self.0.len()];
         for (i, &image) in self.0.iter().enumerate() {
@@ -55,7 +55,7 @@ impl Permutation {
         Permutation(inverse)
     }
 
-    /// Permutes places as 001, 7.9 permutes columns: `new[j] = old[P[j]]`.
+    /// Permutes places as the specification's section 7.9 permutes columns: `new[j] = old[P[j]]`.
     ///
     /// # Panics
     /// If `old` does not have the permutation's length.
@@ -85,7 +85,7 @@ mod tests {
     use super::*;
 
     #[test]
-    fn shuffle_of_the_paper() {
+    fn shuffle_of_the_specification() {
         let shuffled = Permutation::shuffle(5, &[3, 2]);
         assert_eq!(shuffled.list(), [3, 0, 2, 1, 4]);
         assert_eq!(shuffled.inverse().list(), [1, 3, 2, 0, 4]);

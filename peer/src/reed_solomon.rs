@@ -1,16 +1,16 @@
-//! The Reed-Solomon code (01, Key setup: the code; 001, 6.1.3 steps 7 and 8, and 7.14).
+//! The Reed-Solomon code (specification, 6.1.3 steps 7 and 8, and 7.14).
 //!
 //! A code word is a list c_0, .., c_{n-1} whose sums Σ c_i · α^(ij) are 0 for j = 1..2t: read as a polynomial it is a
 //! multiple of g(x) = (x - α)(x - α²)..(x - α^2t).
 //!
 //! Decoding is the classical chain: syndromes, Berlekamp-Massey for the error locator, Chien search for the error
-//! places, Forney's formula for the error values. Document 001 decodes a word with a prefix of 1023 - n zeros; here the
+//! places, Forney's formula for the error values. The specification decodes a word with a prefix of 1023 - n zeros; here the
 //! word has its n elements only, and a locator with roots elsewhere means that no code word is near.
 
 use crate::field::{add_multiple, alpha, div, evaluate, inv, mul, UNITS};
 use crate::matrix::Matrix;
 
-/// g(x) = product of (x - α^i) for i = 1..=degree, lowest coefficient first (001, 6.1.3 step 7).
+/// g(x) = product of (x - α^i) for i = 1..=degree, lowest coefficient first (specification, 6.1.3 step 7).
 pub fn generator_polynomial(degree: usize) -> Vec<u16> {
     let mut polynomial = vec![1];
     for i in 1..=degree {
@@ -21,7 +21,7 @@ pub fn generator_polynomial(degree: usize) -> Vec<u16> {
     polynomial
 }
 
-/// The k by n matrix G0 whose rows are shifts of g (001, 6.1.3 step 8).
+/// The k by n matrix G0 whose rows are shifts of g (specification, 6.1.3 step 8).
 pub fn generator_matrix(n: usize, k: usize) -> Matrix {
     let g = generator_polynomial(n - k);
     Matrix::from_fn(k, n, |i, j| {

@@ -1,6 +1,6 @@
-//! Answer numbers (01, Answer numbers).
+//! Answer numbers.
 
-/// Why a call refuses; the discriminants are the paper's numbers. The number 0 means done.
+/// Why a call refuses; the discriminants are the answer numbers of the C interface. The number 0 means done.
 #[derive(Clone, Copy, Debug, PartialEq, Eq, PartialOrd, Ord)]
 pub enum Refusal {
     /// The set byte is not in the table.
@@ -28,12 +28,12 @@ pub enum Refusal {
 }
 
 impl Refusal {
-    /// The paper's number.
+    /// The answer number.
     pub const fn number(self) -> u16 {
         self as u16
     }
 
-    /// Whether the call ends before it writes anything (01, Answer numbers, last column).
+    /// Whether the call ends before it writes anything.
     pub const fn writes_nothing(self) -> bool {
         matches!(self, Refusal::UnknownSet | Refusal::Length | Refusal::SecretLength)
     }

@@ -1,4 +1,4 @@
-//! Sealing (01, Padding, sealing, opening; 001, 6.2).
+//! Sealing (specification, 6.2).
 
 use crate::bits::{pack, to_numbers, unpack};
 use crate::keys::{encode, PublicKey};
@@ -30,7 +30,7 @@ pub fn seal(key: &PublicKey, random: &[u8], message: &[u8]) -> Option<Sealed> {
         })
 }
 
-/// Parts a random block into the pad seed and the t error places, rising (001, 6.2 step 13 d to g).
+/// Parts a random block into the pad seed and the t error places, rising (specification, 6.2 step 13 d to g).
 ///
 /// # Panics
 /// If the block does not have k3 + 2t bytes.
@@ -42,7 +42,7 @@ pub fn part_block<'a>(set: &Set, block: &'a [u8]) -> (&'a [u8], Vec<u16>) {
     (seed, places)
 }
 
-/// The ciphertext of a triple of message, pad seed and error places (001, 6.2 step 13 i to step 16); `None` if one of
+/// The ciphertext of a triple of message, pad seed and error places (specification, 6.2 step 13 i to step 16); `None` if one of
 /// its error values is zero. The seed's forced bits need not be zero.
 ///
 /// # Panics

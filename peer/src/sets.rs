@@ -1,5 +1,5 @@
-//! The table of sets and the lengths that follow from it (01, first table and Lengths that must match; 001, Tables 1
-//! and 2).
+//! The table of sets and the lengths that follow from it (specification,
+//! Tables 1 and 2).
 
 use crate::bits::bytes_for;
 use crate::field::BITS;
@@ -8,9 +8,9 @@ use crate::refusal::Refusal;
 /// The numbers of a set. Both sets have m = 10, the [`BITS`] of the field.
 #[derive(Debug, PartialEq, Eq)]
 pub struct Set {
-    /// The first byte of the set's keys: RLCEpad with mediumEncoding, and the set's number (001, 6.1.2).
+    /// The first byte of the set's keys: RLCEpad with mediumEncoding, and the set's number (specification, 6.1.2).
     pub byte: u8,
-    /// The set's number in document 001's Table 2.
+    /// The set's number in the specification's Table 2.
     pub number: u8,
     /// Length of the code.
     pub n: usize,
@@ -58,7 +58,7 @@ pub static SETS: [Set; 2] = [
     },
 ];
 
-/// Windows of bytes that setup tries for P2 (01, Key setup).
+/// Windows of bytes that setup tries for P2.
 pub const WINDOWS: usize = 5;
 
 /// The most blocks of random bytes that sealing takes.
@@ -70,8 +70,8 @@ impl Set {
         SETS.iter().find(|set| set.byte == byte)
     }
 
-    /// The set that a key's first byte names. The first two refusals of every call with a key, in their order
-    /// (01, Answer numbers).
+    /// The set that a key's first byte names. The first two refusals of every call with a key, in their order:
+    /// an empty key before an unknown byte.
     pub fn of_key(key: &[u8]) -> Result<&'static Set, Refusal> {
         let first = key.first().ok_or(Refusal::Length)?;
         Set::of_byte(*first).ok_or(Refusal::UnknownSet)
@@ -97,12 +97,12 @@ impl Set {
         self.k * self.ge_columns()
     }
 
-    /// Bytes of a public key (001, 6.1.2).
+    /// Bytes of a public key (specification, 6.1.2).
     pub const fn public_bytes(&self) -> usize {
         1 + bytes_for(self.ge_elements())
     }
 
-    /// Bytes of a private key in the form of decoding method 2 (001, 6.1.2).
+    /// Bytes of a private key in the form of decoding method 2 (specification, 6.1.2).
     pub const fn private_bytes(&self) -> usize {
         1 + 2 * self.n + 2 * self.scrambled() + bytes_for(2 * self.w + self.n + self.ge_elements())
     }
@@ -117,17 +117,17 @@ impl Set {
         self.k1 + self.k2 + self.k3
     }
 
-    /// ν, the last bits of the pad seed, forced to zero, and of the padded string, lost (001, 7.13).
+    /// ν, the last bits of the pad seed, forced to zero, and of the padded string, lost (specification, 7.13).
     pub const fn lost_bits(&self) -> usize {
         8 * self.padded_bytes() - BITS * (self.k + self.t)
     }
 
-    /// nRE, the number of random elements of setup (001, 6.1.3 step 11).
+    /// nRE, the number of random elements of setup (specification, 6.1.3 step 11).
     pub const fn setup_elements(&self) -> usize {
         self.n + (4 + self.k) * self.w + 25
     }
 
-    /// nRB, the number of random bytes of setup (001, 6.1.3 step 12).
+    /// nRB, the number of random bytes of setup (specification, 6.1.3 step 12).
     pub const fn setup_random_bytes(&self) -> usize {
         bytes_for(self.setup_elements()) + 4 * self.n + 2 * self.w
     }
@@ -154,7 +154,7 @@ mod tests {
     use super::*;
 
     #[test]
-    fn lengths_of_the_paper() {
+    fn lengths_of_the_specification() {
         let lengths = |set: &Set| {
             [
                 set.public_bytes(),

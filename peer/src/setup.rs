@@ -1,4 +1,4 @@
-//! Key setup from lent random bytes (01, Key setup; 001, 6.1.3 and 7.6 to 7.9).
+//! Key setup from lent random bytes (specification, 6.1.3 and 7.6 to 7.9).
 
 use crate::bits::{bytes_for, to_numbers, unpack};
 use crate::field::inv;
@@ -44,7 +44,7 @@ fn first_column([[upper, _], [lower, _]]: Block) -> [u16; 2] {
     [upper, lower]
 }
 
-/// The random bytes of setup, parted (001, 6.1.3 steps 11 to 18 and 23): elements first, then bytes for permutations.
+/// The random bytes of setup, parted (specification, 6.1.3 steps 11 to 18 and 23): elements first, then bytes for permutations.
 #[derive(Clone, Debug)]
 pub struct Draw<'a> {
     set: &'static Set,
@@ -81,7 +81,7 @@ impl<'a> Draw<'a> {
         find_blocks(&self.elements[n + 5..n + 4 * w + 25], w)
     }
 
-    /// R, the k by w matrix that takes elements column after column (001, 7.7).
+    /// R, the k by w matrix that takes elements column after column (specification, 7.7).
     pub fn random_columns(&self) -> Matrix {
         let Set { n, k, w, .. } = *self.set;
         let elements = &self.elements[n + 4 * w + 25..];
@@ -160,7 +160,7 @@ fn non_zero(elements: &[u16]) -> Vec<u16> {
     elements.iter().copied().filter(|&element| element != 0).collect()
 }
 
-/// Searches blocks among elements (01, Key setup: blocks; 001, 7.6): drops zeros; takes four as [a, b; c, d]; moves up
+/// Searches blocks among elements (specification, 7.6): drops zeros; takes four as [a, b; c, d]; moves up
 /// by one if ad - bc = 0, else by four. `None` if fewer than four are left before there are `wanted` blocks.
 pub fn find_blocks(elements: &[u16], wanted: usize) -> Option<Vec<Block>> {
     let elements = non_zero(elements);

@@ -1,4 +1,4 @@
-//! The bench values of paper 01, in its order.
+//! Stated values of every call, computed by hand from the specification.
 
 mod common;
 

@@ -1,5 +1,5 @@
 //! Known answers: keys and ciphertexts from strings of the mask generator. The digests were confirmed by a third,
-//! naive transcription of document 001 in another language.
+//! naive transcription of the specification in another language.
 
 mod common;
 

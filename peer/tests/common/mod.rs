@@ -15,7 +15,7 @@ pub fn set1() -> &'static Set {
 }
 
 /// Runs a call on output buffers and a work area full of junk, twice with different junk; checks that it left them as
-/// 01's answer table says; gives its answer and the output buffers.
+/// the table of answers in `calls` says; gives its answer and the output buffers.
 fn run<const BUFFERS: usize>(
     lengths: [usize; BUFFERS],
     work_length: usize,
