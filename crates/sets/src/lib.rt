@@ -1,11 +1,12 @@
-// The sets of paper 01: their numbers by value, and the set that a set byte names.
+// The sets of parameters: their numbers by value, and the set that a set byte names.
 #![tactic(auto)]
 
 ghost use Rattle.std.specs.Prelude.{◌≡◌};
-ghost use Rattle.sets.specs.Table.{set_of, set6, set1};
+ghost use Rattle.sets.specs.Table.{set_of};
+ghost use Rattle.sets.specs.Valid.{Valid};
 
-// A row of the table of sets, and the lengths that must match.
-#[derive(Clone, Copy)]
+/// A row of the table of sets, and the lengths that must match.
+#[derive(Clone, Copy, Debug, PartialEq, Eq)]
 pub struct Set {
     // the set byte, and the set's number
     pub byte: usize,
@@ -32,69 +33,68 @@ pub struct Set {
     pub work: usize,
 }
 
-// The set that a set byte names, if there is one.
+/// A set whose numbers fit together, as those of every row of the table do.
+#[derive(Clone, Copy, Debug, PartialEq, Eq)]
+pub struct ParameterSet {
+    pub set: Set,
+    pub ghost valid: { Valid set },
+}
+
+pub const SET6: Set = Set {
+    byte: 0x16,
+    number: 6,
+    n: 40,
+    k: 20,
+    t: 10,
+    w: 5,
+    m: 10,
+    k1: 30,
+    k2: 4,
+    k3: 4,
+    u0: 7,
+    public: 626,
+    private: 859,
+    cipher: 57,
+    random: 402,
+    block: 24,
+    work: 7200,
+};
+
+pub const SET1: Set = Set {
+    byte: 0x11,
+    number: 1,
+    n: 532,
+    k: 376,
+    t: 78,
+    w: 96,
+    m: 10,
+    k1: 504,
+    k2: 32,
+    k3: 32,
+    u0: 123,
+    public: 118441,
+    private: 121666,
+    cipher: 785,
+    random: 48617,
+    block: 188,
+    work: 1336384,
+};
+
+/// The set that a set byte names, if there is one.
 #[derive(Clone, Copy)]
 pub enum Named {
     Known(Set),
     Unknown,
 }
 
+/// The set that a set byte names, if there is one.
+#[tactic(auto, unfolding(crate::specs::Table::set_of))]
 pub fn find(byte: u8) -> Named
     ensures { result ≡ set_of byte }
 {
-    if byte == 0x16 {
-        return Named::Known(set6());
-    }
-    if byte == 0x11 {
-        return Named::Known(set1());
-    }
-    Named::Unknown
-}
-
-fn set6() -> Set
-    ensures { result ≡ set6 }
-{
-    Set {
-        byte: 0x16,
-        number: 6,
-        n: 40,
-        k: 20,
-        t: 10,
-        w: 5,
-        m: 10,
-        k1: 30,
-        k2: 4,
-        k3: 4,
-        u0: 7,
-        public: 626,
-        private: 859,
-        cipher: 57,
-        random: 402,
-        block: 24,
-        work: 7200,
-    }
-}
-
-fn set1() -> Set
-    ensures { result ≡ set1 }
-{
-    Set {
-        byte: 0x11,
-        number: 1,
-        n: 532,
-        k: 376,
-        t: 78,
-        w: 96,
-        m: 10,
-        k1: 504,
-        k2: 32,
-        k3: 32,
-        u0: 123,
-        public: 118441,
-        private: 121666,
-        cipher: 785,
-        random: 48617,
-        block: 188,
-        work: 1336384,
+    match byte {
+        0x16 => Named::Known(SET6),
+        0x11 => Named::Known(SET1),
+        _ => Named::Unknown,
     }
 }
