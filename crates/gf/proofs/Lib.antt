@@ -4,6 +4,7 @@ pub mod Ring
 pub mod Cyclic
 pub mod Elements
 pub mod Runs
+pub mod Rows
 pub mod Answers
 -- which moduli are fields: the test, and the one that is tested
 pub mod Test

@@ -1,7 +1,15 @@
 -- What the kernels compute on runs of elements of a list. A run is its first place and its number of elements.
-use Rattle.std.specs.Prelude.{List, ℕ, ◌+◌, get_or, set}
-use Rattle.lists.specs.Loops.{turns}
+use Rattle.std.specs.Prelude.{List, ℕ, ◌+◌, length, get_or, set}
+use Rattle.lists.specs.Loops.{tab, turns}
 use Rattle.gf.specs.Field.{Modulus, ◌⊕◌, mul}
+
+-- row, with f times its partner of `by` added to each element
+unfoldable pub row_plus : Modulus → ℕ → List ℕ → List ℕ → List ℕ
+row_plus F f by row = tab (length row) (λ i. get_or row i 0 ⊕ mul F f (get_or by i 0))
+
+-- row, each element times its partner of `by`
+unfoldable pub row_times : Modulus → List ℕ → List ℕ → List ℕ
+row_times F by row = tab (length row) (λ i. mul F (get_or row i 0) (get_or by i 0))
 
 -- turn i of add_run, at the i-th place of each run
 abbrev pub add_at : Modulus → ℕ → ℕ → ℕ → ℕ → List ℕ → List ℕ

@@ -6,7 +6,7 @@
 ghost use Rattle.std.specs.Prelude.{◌≡◌, ℕ, ◌+◌, ◌*◌, ◌%◌, ◌<◌, ◌≤◌, length};
 ghost use Rattle.gf.specs.Field.{size, times_x, mul, alpha, inverse};
 ghost use Rattle.gf.specs.Ten.{ten};
-ghost use Rattle.gf.specs.Runs.{add_run, scale_run, mul_run};
+ghost use Rattle.gf.specs.Runs.{row_plus, row_times, add_run, scale_run, mul_run};
 ghost use Rattle.gf.specs.Digits.{multiples};
 
 pub mod calls;
@@ -100,6 +100,30 @@ pub fn power(i: usize) -> u16
 {
     pow_at(i % 1023)
 }
+
+// factor times each element of `by`, added to its partner in row
+pub fn add_multiple(row: &mut [u16], factor: u16, by: &[u16])
+    requires same_length { length by.now ≡ length row.old }
+    ensures { row.new ≡ row_plus ten factor by.now row.old }
+{
+    let t = multiples(factor);
+    for i in 0..row.len() {
+        row[i] ^= combine(t, by[i]);
+    }
+}
+
+// each element of row times its partner in `by`
+pub fn multiply(row: &mut [u16], by: &[u16])
+    requires same_length { length by.now ≡ length row.old }
+    ensures { row.new ≡ row_times ten by.now row.old }
+{
+    for i in 0..row.len() {
+        let t = multiples(by[i]);
+        row[i] = combine(t, row[i]);
+    }
+}
+
+// The three below are on runs of one slice, which may overlap: so they are loops by hand over places.
 
 // f times the n elements from src on, added to those from dst on
 pub fn add_run(s: &mut [u16], dst: usize, src: usize, n: usize, f: u16)
