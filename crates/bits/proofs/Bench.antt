@@ -3,8 +3,6 @@ use mathlib.Core.Path.{◌≡◌, refl}
 use mathlib.Core.List.{[], ◌∷◌}
 use Prim.Native.Nat.{ℕ}
 use Rattle.bits.specs.Bits.{bits_of, bits, value, grouped, elements, packed}
-use Rattle.bits.specs.Answer.{number_of}
-use Rattle.bits.specs.declared.Answer.TheVariants.{Done, Refused}
 
 -- bytes FF C0 01 give 1023, 0
 pub two-elements : elements 10 (0xff ∷ 0xc0 ∷ 0x01 ∷ []) ≡ 1023 ∷ 0 ∷ []
@@ -30,9 +28,3 @@ no_bytes = refl
 pub one_byte : (b : ℕ) → elements 10 (b ∷ []) ≡ []
 unfolding elements grouped value bits bits_of
 one_byte b = refl
-
-pub done-number : number_of Done ≡ 0
-done-number = refl
-
-pub refused-number : number_of Refused ≡ 2
-refused-number = refl

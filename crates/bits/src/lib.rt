@@ -11,16 +11,10 @@ ghost use Rattle.std.specs.Prelude.{◌≡◌, ◌<◌, ◌≤◌, ◌^◌};
 ghost use Rattle.bits.specs.Bits.{elements_in, bytes_for};
 ghost use Rattle.bits.specs.Answer.{Unpacked, Packed};
 
+use lists::Refused;
 pub use numbers::{get_numbers, number_at, put_number, put_numbers};
 pub use reading::{bits_at, tail_zero, unpack, unpack_at};
 pub use writing::{pack, small};
-
-// What a call answers; `number_of` gives paper 01's number of each.
-#[derive(Clone, Copy)]
-pub enum Answer {
-    Done,
-    Refused,
-}
 
 // How many whole elements some bytes hold; 8 times the number of bytes need not fit a usize.
 fn element_count(m: usize, bytes: usize) -> usize
@@ -39,39 +33,24 @@ fn byte_count(m: usize, elements: usize) -> usize
 }
 
 // Bytes to elements of m bits. Refused, with nothing written: m is not from 8 to 16, or `out` is not as long as the elements are many.
-pub fn unpack_call(m: usize, bytes: &[u8], out: &mut [u16]) -> Answer
+pub fn unpack_call(m: usize, bytes: &[u8], out: &mut [u16]) -> Result<(), Refused>
     ensures { Unpacked m bytes.now out.old result out.new }
 {
-    if m < 8 {
-        return Answer::Refused;
-    }
-    if 16 < m {
-        return Answer::Refused;
-    }
-    if out.len() != element_count(m, bytes.len()) {
-        return Answer::Refused;
+    if !(8..=16).contains(&m) || out.len() != element_count(m, bytes.len()) {
+        return Err(Refused);
     }
     unpack(bytes, m, out);
-    Answer::Done
+    Ok(())
 }
 
 // Elements of m bits to bytes. Refused, with nothing written: m is not from 8 to 16, `out` has not the length that the elements take, or
 // an element is 2 to the m or more.
-pub fn pack_call(m: usize, elements: &[u16], out: &mut [u8]) -> Answer
+pub fn pack_call(m: usize, elements: &[u16], out: &mut [u8]) -> Result<(), Refused>
     ensures { Packed m elements.now out.old result out.new }
 {
-    if m < 8 {
-        return Answer::Refused;
-    }
-    if 16 < m {
-        return Answer::Refused;
-    }
-    if out.len() != byte_count(m, elements.len()) {
-        return Answer::Refused;
-    }
-    if !small(elements, m) {
-        return Answer::Refused;
+    if !(8..=16).contains(&m) || out.len() != byte_count(m, elements.len()) || !small(elements, m) {
+        return Err(Refused);
     }
     pack(elements, m, out);
-    Answer::Done
+    Ok(())
 }

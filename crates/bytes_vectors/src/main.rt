@@ -5,9 +5,8 @@
 #![tactic(auto)]
 
 ghost use Rattle.std.specs.Prelude.{◌≡◌, ◌+◌, ◌<◌, ◌≤◌, ◌^◌, ◌/◌, length};
-ghost use Rattle.bits.specs.Answer.{number_of};
 
-use bits::Answer;
+use lists::Refused;
 
 // The number of standard input.
 const STDIN: i32 = 0;
@@ -15,23 +14,14 @@ const STDIN: i32 = 0;
 // The number of standard output.
 const STDOUT: i32 = 1;
 
-fn number_of(a: Answer) -> u64
-    ensures { result ≡ number_of a }
-{
-    match a {
-        Answer::Done => 0,
-        Answer::Refused => 2,
-    }
-}
-
 fn word(n: u64) {
     io::write_all(STDOUT, b" ");
     io::print_decimal(STDOUT, n);
 }
 
-fn start(kind: u8, a: Answer) {
+fn start(kind: u8, a: Result<(), Refused>) {
     io::print_decimal(STDOUT, kind as u64);
-    word(number_of(a));
+    word(u64::from(lists::number(a)));
     io::write_all(STDOUT, b":");
 }
 
@@ -114,7 +104,7 @@ fn invert_case(list: &[u16], out: &mut [u16]) {
 
 fn both_case(input: &[u8], list: &mut [u16], out: &mut [u16]) {
     lists::wipe_numbers(list);
-    perm::shuffle_call(input, list);
+    let _shuffled = perm::shuffle_call(input, list);
     lists::wipe_numbers(out);
     let a = perm::invert_call(list, out);
     start(4, a);

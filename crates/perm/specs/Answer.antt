@@ -1,8 +1,6 @@
--- 01, Answer numbers and Lengths that must match: what the shuffle and the inversion answer, and what the lent list holds afterwards.
--- `number_of` of the crate `bits` gives the number of each answer: 0 when done, 2 when refused.
-use Rattle.std.specs.Prelude.{◌≡◌, List, ℕ, ◌≤◌, ◌-◌, ◌/◌, ◌%◌, length}
-use Rattle.bits.specs.declared.Answer.{Answer}
-use Rattle.bits.specs.declared.Answer.TheVariants.{Done, Refused}
+-- What the shuffle and the inversion answer, and what the lent list holds afterwards.
+use Rattle.std.specs.Prelude.{◌≡◌, List, ℕ, ◌≤◌, ◌-◌, ◌/◌, ◌%◌, Result, Ok, Err, length}
+use Rattle.lists.specs.declared.Refused.{Refused}
 use Rattle.perm.specs.Shuffle.{shuffled}
 use Rattle.perm.specs.Perm.{Inverse, Perm}
 
@@ -14,11 +12,11 @@ pub record Shuffles (bytes list : List ℕ) : Type 0 where
   pub few : length bytes / 2 ≤ length list - 1
 
 -- shuffling: of the bytes, and the list before and after
-abbrev pub Shuffled : List ℕ → List ℕ → Answer → List ℕ → Type 0
-Shuffled bytes before Done after = Shuffles bytes before × (after ≡ shuffled bytes (length before) (length bytes / 2))
-Shuffled bytes before Refused after = (Shuffles bytes before → ⊥) × (after ≡ before)
+abbrev pub Shuffled : List ℕ → List ℕ → Result (Unit {0}) Refused → List ℕ → Type 0
+Shuffled bytes before (Ok done) after = Shuffles bytes before × (after ≡ shuffled bytes (length before) (length bytes / 2))
+Shuffled bytes before (Err refused) after = (Shuffles bytes before → ⊥) × (after ≡ before)
 
 -- inverting: of the list, and its inverse before and after
-abbrev pub Inverted : List ℕ → List ℕ → Answer → List ℕ → Type 0
-Inverted list before Done after = (length before ≡ length list) × Inverse list after
-Inverted list before Refused after = (length before ≡ length list → Perm list → ⊥) × (after ≡ before)
+abbrev pub Inverted : List ℕ → List ℕ → Result (Unit {0}) Refused → List ℕ → Type 0
+Inverted list before (Ok done) after = (length before ≡ length list) × Inverse list after
+Inverted list before (Err refused) after = (length before ≡ length list → Perm list → ⊥) × (after ≡ before)

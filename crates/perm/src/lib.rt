@@ -1,4 +1,4 @@
-// Permutations of places: the shuffle of document 001, 7.8, and the inverse of a permutation.
+// Permutations of places: the shuffle of the RLCE-KEM specification of September 14, 2017, section 7.8, and the inverse of a permutation.
 //
 // `shuffle_call` and `invert_call` take any input. The functions they stand on, which the layers above use, say what they require.
 #![tactic(auto)]
@@ -9,41 +9,30 @@ mod window;
 
 ghost use Rattle.perm.specs.Answer.{Shuffled, Inverted};
 
-use bits::Answer;
 pub use inverse::{invert, is_permutation};
+use lists::Refused;
 pub use swaps::shuffle;
 
 // Shuffles 0, 1, .. by the 16-bit numbers in the bytes. Refused, with nothing written: the list's length u is not from 1 to 65536, the
 // bytes are odd in number, or they hold more than u - 1 numbers.
-pub fn shuffle_call(bytes: &[u8], list: &mut [u16]) -> Answer
+pub fn shuffle_call(bytes: &[u8], list: &mut [u16]) -> Result<(), Refused>
     ensures { Shuffled bytes.now list.old result list.new }
 {
-    if list.len() < 1 {
-        return Answer::Refused;
-    }
-    if 65536 < list.len() {
-        return Answer::Refused;
-    }
-    if bytes.len() % 2 != 0 {
-        return Answer::Refused;
-    }
-    if list.len() - 1 < bytes.len() / 2 {
-        return Answer::Refused;
+    let u = list.len();
+    if !(1..=65536).contains(&u) || bytes.len() % 2 != 0 || u - 1 < bytes.len() / 2 {
+        return Err(Refused);
     }
     shuffle(bytes, list);
-    Answer::Done
+    Ok(())
 }
 
 // The inverse of a permutation. Refused, with nothing written: the list is none, or the inverse is not as long.
-pub fn invert_call(list: &[u16], inverse: &mut [u16]) -> Answer
+pub fn invert_call(list: &[u16], inverse: &mut [u16]) -> Result<(), Refused>
     ensures { Inverted list.now inverse.old result inverse.new }
 {
-    if inverse.len() != list.len() {
-        return Answer::Refused;
-    }
-    if !is_permutation(list) {
-        return Answer::Refused;
+    if inverse.len() != list.len() || !is_permutation(list) {
+        return Err(Refused);
     }
     inverse::write(list, inverse);
-    Answer::Done
+    Ok(())
 }

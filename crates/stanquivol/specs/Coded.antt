@@ -1,14 +1,14 @@
--- A number stands for the answer of which the call's promise holds (01, Answer numbers).
-use Rattle.std.specs.Prelude.{◌≡◌, ℕ}
-use Rattle.bits.specs.declared.Answer.{Answer}
-use Rattle.bits.specs.Answer.{number_of}
+-- A number stands for the answer of which the call's promise holds.
+use Rattle.std.specs.Prelude.{◌≡◌, ℕ, Result}
+use Rattle.lists.specs.declared.Refused.{Refused}
+use Rattle.lists.specs.Answers.{number_of}
 use Rattle.hash.specs.declared.calls.Answer.{Answer as HashAnswer}
 use Rattle.hash.specs.Answers.{number_of as hash_number_of}
 use Rattle.scheme.specs.declared.Answer.{Answer as CallAnswer}
 use Rattle.scheme.specs.Answers.{coded}
 
-pub record Coded (Promise : Answer → Type 0) (r : ℕ) : Type 0 where
-  pub answer : Answer
+pub record Coded (Promise : Result (Unit {0}) Refused → Type 0) (r : ℕ) : Type 0 where
+  pub answer : Result (Unit {0}) Refused
   pub number : r ≡ number_of answer
   pub holds : Promise answer
 

@@ -2,7 +2,8 @@
 #![tactic(auto)]
 
 ghost use Rattle.std.specs.Prelude.{◌≡◌, ◌<◌};
-ghost use Rattle.bits.specs.Answer.{number_of, Unpacked, Packed};
+ghost use Rattle.lists.specs.Answers.{number_of};
+ghost use Rattle.bits.specs.Answer.{Unpacked, Packed};
 ghost use Rattle.perm.specs.Answer.{Shuffled, Inverted};
 ghost use Rattle.hash.specs.Answers.{Digested, Masked};
 ghost use Rattle.stanquivol.specs.Coded.{Coded, HashCoded, CallCoded};
@@ -10,18 +11,15 @@ ghost use Rattle.scheme.specs.Answers.{count_of, coded};
 ghost use Rattle.scheme.specs.Calls.{setup_ends, seal_ends, OpenEnds, wrap_ends, UnwrapEnds};
 ghost use Rattle.calls.specs.Ends.{setup_end, seal_end};
 
-use bits::Answer;
 use calls::{closing, disclosing, founding};
 use hash::calls::Answer as Hashed;
+use lists::Refused;
 use scheme::Answer as Called;
 
-fn number(a: Answer) -> u16
-    ensures { result ≡ number_of a }
+fn number(answer: Result<(), Refused>) -> u16
+    ensures { result ≡ number_of answer }
 {
-    match a {
-        Answer::Done => 0,
-        Answer::Refused => 2,
-    }
+    u16::from(lists::number(answer))
 }
 
 fn hash_number(a: Hashed) -> u16
