@@ -9,8 +9,7 @@ use lib.ListN.{length}
 use borrow.Author.Tests.{ltb-true, leb-true}
 use Rattle.lists.specs.Loops.{pick}
 use Rattle.sets.specs.declared.Set.{Set}
-use Rattle.sets.specs.declared.Named.{Named}
-use Rattle.sets.specs.declared.Named.TheVariants.{Known, Unknown}
+use Rattle.std.specs.Prelude.{Option, Some, None}
 use Rattle.sets.specs.Table.{set_of}
 use Rattle.scheme.specs.declared.Answer.{Answer}
 use Rattle.scheme.specs.declared.Answer.TheVariants.{Done, UnknownSet, WrongLength, FewMultipliers, FewElements, NoWindow, Dependent, Malformed, Singular, ZeroValues, NotOpened, WrongSecret}
@@ -64,9 +63,9 @@ module _ (random public private work : List ℕ) where
   after-few (made p q count) (few_made h) = h
   after-few (fails a) (few_fails h) = h
 
-  setup-of-few : (n : Named) → count_of (setup_of n random public private work).answer ≤ 5
-  setup-of-few Unknown = omega arith
-  setup-of-few (Known s) = go (setup_lengths s (length random) (length public) (length private) (length work))
+  setup-of-few : (n : Option Set) → count_of (setup_of n random public private work).answer ≤ 5
+  setup-of-few None = omega arith
+  setup-of-few (Some s) = go (setup_lengths s (length random) (length public) (length private) (length work))
     where
       go : (t : Bool) → count_of (pick t (after_setup (setup s random) public private work) (setup_end WrongLength public private work)).answer ≤ 5
       go true = after-few (setup s random) (setup-few s random)
@@ -97,9 +96,9 @@ few-blocks s key random cipher work right =
     leb-true _ _ d
 
 module _ (random msg cipher work : List ℕ) where
-  seal-of-few : (n : Named) (key : List ℕ) → count_of (seal_of n key random msg cipher work).answer ≤ 16
-  seal-of-few Unknown key = omega arith
-  seal-of-few (Known s) key = go (seal_lengths s (length key) (length random) (length cipher) (length work) && eqb (length msg) s.k1) refl
+  seal-of-few : (n : Option Set) (key : List ℕ) → count_of (seal_of n key random msg cipher work).answer ≤ 16
+  seal-of-few None key = omega arith
+  seal-of-few (Some s) key = go (seal_lengths s (length key) (length random) (length cipher) (length work) && eqb (length msg) s.k1) refl
     where
       go : (t : Bool) → seal_lengths s (length key) (length random) (length cipher) (length work) && eqb (length msg) s.k1 ≡ t
           → count_of (pick t (after_seal s key random msg cipher work) (seal_end WrongLength cipher work)).answer ≤ 16
@@ -108,9 +107,9 @@ module _ (random msg cipher work : List ℕ) where
           (few-blocks s (length key) (length random) (length cipher) (length work) (both (seal_lengths s (length key) (length random) (length cipher) (length work)) _ e).0)
       go false e = omega arith
 
-  wrap-of-few : (n : Named) (key : List ℕ) → count_of (wrap_of n key random msg cipher work).answer ≤ 16
-  wrap-of-few Unknown key = omega arith
-  wrap-of-few (Known s) key = go (seal_lengths s (length key) (length random) (length cipher) (length work)) (leb 1 (length msg) && leb (length msg) s.k1) refl
+  wrap-of-few : (n : Option Set) (key : List ℕ) → count_of (wrap_of n key random msg cipher work).answer ≤ 16
+  wrap-of-few None key = omega arith
+  wrap-of-few (Some s) key = go (seal_lengths s (length key) (length random) (length cipher) (length work)) (leb 1 (length msg) && leb (length msg) s.k1) refl
     where
       go : (t u : Bool) → seal_lengths s (length key) (length random) (length cipher) (length work) ≡ t
           → count_of (pick t (pick u (after_seal s key random (secret_message s msg) cipher work) (seal_end WrongSecret cipher work)) (seal_end WrongLength cipher work)).answer ≤ 16
@@ -165,9 +164,9 @@ module _ (cipher out work : List ℕ) (r : Answer) (out' work' : List ℕ) where
   open-checked-few true s key o = opening-few s key (Opens s key cipher) o
   open-checked-few false s key o = untouched-few WrongLength out work r out' work' refl o
 
-  open-of-few : (n : Named) (key : List ℕ) → OpenOf n key cipher out work r out' work' → count_of r ≡ 0
-  open-of-few Unknown key o = untouched-few UnknownSet out work r out' work' refl o
-  open-of-few (Known s) key o = open-checked-few (open_lengths s (length key) (length cipher) (length work) && eqb (length out) s.k1) s key o
+  open-of-few : (n : Option Set) (key : List ℕ) → OpenOf n key cipher out work r out' work' → count_of r ≡ 0
+  open-of-few None key o = untouched-few UnknownSet out work r out' work' refl o
+  open-of-few (Some s) key o = open-checked-few (open_lengths s (length key) (length cipher) (length work) && eqb (length out) s.k1) s key o
 
   open-few : (key : List ℕ) → OpenEnds key cipher out work r out' work' → count_of r ≡ 0
   open-few [] o = untouched-few WrongLength out work r out' work' refl o
@@ -181,9 +180,9 @@ module _ (cipher out work : List ℕ) (r : Answer) (out' work' : List ℕ) where
   unwrap-checked-few true s key o = unwrap-sized-few (leb 1 (length out) && leb (length out) s.k1) s key o
   unwrap-checked-few false s key o = untouched-few WrongLength out work r out' work' refl o
 
-  unwrap-of-few : (n : Named) (key : List ℕ) → UnwrapOf n key cipher out work r out' work' → count_of r ≡ 0
-  unwrap-of-few Unknown key o = untouched-few UnknownSet out work r out' work' refl o
-  unwrap-of-few (Known s) key o = unwrap-checked-few (open_lengths s (length key) (length cipher) (length work)) s key o
+  unwrap-of-few : (n : Option Set) (key : List ℕ) → UnwrapOf n key cipher out work r out' work' → count_of r ≡ 0
+  unwrap-of-few None key o = untouched-few UnknownSet out work r out' work' refl o
+  unwrap-of-few (Some s) key o = unwrap-checked-few (open_lengths s (length key) (length cipher) (length work)) s key o
 
   unwrap-few : (key : List ℕ) → UnwrapEnds key cipher out work r out' work' → count_of r ≡ 0
   unwrap-few [] o = untouched-few WrongLength out work r out' work' refl o

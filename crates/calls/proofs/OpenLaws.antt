@@ -9,8 +9,7 @@ use lib.Dec.{eqb}
 use lib.ListN.{length, get_or, take}
 use borrow.Author.Tests.{eq-eqb, ne_eqb, le-leb, lt-leb, eqb-true, not-true, not-false}
 use Rattle.sets.specs.declared.Set.{Set}
-use Rattle.sets.specs.declared.Named.{Named}
-use Rattle.sets.specs.declared.Named.TheVariants.{Known, Unknown}
+use Rattle.std.specs.Prelude.{Some, None}
 use Rattle.sets.specs.Table.{set_of}
 use Rattle.scheme.specs.declared.Answer.{Answer}
 use Rattle.scheme.specs.declared.Answer.TheVariants.{Done, UnknownSet, WrongLength, WrongSecret, NotOpened, Malformed as AnswerMalformed, Singular as AnswerSingular}
@@ -114,10 +113,10 @@ module _ (s : Set) (key cipher work : List ℕ) where
       }
 
   module _ (t : Bool) (is : t ≡ open_lengths s (length key) (length cipher) (length work)) where
-    pub open-wrong : (out : List ℕ) → not t ≡ true → OpenOf (Known s) key cipher out work WrongLength out work
+    pub open-wrong : (out : List ℕ) → not t ≡ true → OpenOf (Some s) key cipher out work WrongLength out work
     open-wrong out h = rw (← is, not-true t h) (record { answers = refl; same_out = refl; same_work = refl })
 
-    pub unwrap-wrong : (out : List ℕ) → not t ≡ true → UnwrapOf (Known s) key cipher out work WrongLength out work
+    pub unwrap-wrong : (out : List ℕ) → not t ≡ true → UnwrapOf (Some s) key cipher out work WrongLength out work
     unwrap-wrong out h = rw (← is, not-true t h) (record { answers = refl; same_out = refl; same_work = refl })
 
     module _ (h : not t ≡ false) where
@@ -139,20 +138,20 @@ module _ (s : Set) (key cipher work : List ℕ) where
       open-ready v out long = open-given (disclose-given v) out long
 
       module _ (out : List ℕ) where
-        pub open-other : (length out ≡ s.k1 → ⊥) → OpenOf (Known s) key cipher out work WrongLength out work
+        pub open-other : (length out ≡ s.k1 → ⊥) → OpenOf (Some s) key cipher out work WrongLength out work
         open-other d = rw (right, ne_eqb (length out) s.k1 d) (record { answers = refl; same_out = refl; same_work = refl })
 
-        pub open_done : length out ≡ s.k1 → (b : Answer) (out₂ work₂ : List ℕ) → Opening s key cipher (Opens s key cipher) out work b out₂ work₂ → OpenOf (Known s) key cipher out work b out₂ work₂
+        pub open_done : length out ≡ s.k1 → (b : Answer) (out₂ work₂ : List ℕ) → Opening s key cipher (Opens s key cipher) out work b out₂ work₂ → OpenOf (Some s) key cipher out work b out₂ work₂
         open_done d b out₂ work₂ o = rw (right, eq-eqb (length out) s.k1 d) o
 
-        pub unwrap-short : length out < 1 → UnwrapOf (Known s) key cipher out work WrongSecret out work
+        pub unwrap-short : length out < 1 → UnwrapOf (Some s) key cipher out work WrongSecret out work
         unwrap-short d = rw (right, lt-leb 1 (length out) d) (record { answers = refl; same_out = refl; same_work = refl })
 
         module _ (o : 1 ≤ length out) where
-          pub unwrap-long : s.k1 < length out → UnwrapOf (Known s) key cipher out work WrongSecret out work
+          pub unwrap-long : s.k1 < length out → UnwrapOf (Some s) key cipher out work WrongSecret out work
           unwrap-long d = rw (right, le-leb 1 (length out) o, lt-leb (length out) s.k1 d) (record { answers = refl; same_out = refl; same_work = refl })
 
-          pub unwrap-done : length out ≤ s.k1 → (b : Answer) (out₂ work₂ : List ℕ) → Opening s key cipher (GivesSecret s key cipher (length out)) out work b out₂ work₂ → UnwrapOf (Known s) key cipher out work b out₂ work₂
+          pub unwrap-done : length out ≤ s.k1 → (b : Answer) (out₂ work₂ : List ℕ) → Opening s key cipher (GivesSecret s key cipher (length out)) out work b out₂ work₂ → UnwrapOf (Some s) key cipher out work b out₂ work₂
           unwrap-done d b out₂ work₂ x = rw (right, le-leb 1 (length out) o, le-leb (length out) s.k1 d) x
 
 -- ---- the key's first byte
@@ -165,25 +164,19 @@ module _ (cipher out work : List ℕ) where
   unwrap-empty [] h = record { answers = refl; same_out = refl; same_work = refl }
   unwrap-empty (b ∷ key) h = absurd (omega arith)
 
-  module _ (b : Answer) (out₂ work₂ : List ℕ) where
-    open_of : (key : List ℕ) → (length key ≡ 0 → ⊥) → (named : Named) → named ≡ set_of (get_or key 0 0) → OpenOf named key cipher out work b out₂ work₂ → OpenEnds key cipher out work b out₂ work₂
-    open_of [] h named q o = absurd (h refl)
-    open_of (k ∷ key) h named q o = rw q at o
+  pub open_unknown : (key : List ℕ) → (length key ≡ 0 → ⊥) → set_of (get_or key 0 0) ≡ None → OpenEnds key cipher out work UnknownSet out work
+  open_unknown [] h e = absurd (h refl)
+  open_unknown (b ∷ key) h e = rw e (record { answers = refl; same_out = refl; same_work = refl })
 
-    unwrap-of : (key : List ℕ) → (length key ≡ 0 → ⊥) → (named : Named) → named ≡ set_of (get_or key 0 0) → UnwrapOf named key cipher out work b out₂ work₂ → UnwrapEnds key cipher out work b out₂ work₂
-    unwrap-of [] h named q o = absurd (h refl)
-    unwrap-of (k ∷ key) h named q o = rw q at o
+  pub unwrap-unknown : (key : List ℕ) → (length key ≡ 0 → ⊥) → set_of (get_or key 0 0) ≡ None → UnwrapEnds key cipher out work UnknownSet out work
+  unwrap-unknown [] h e = absurd (h refl)
+  unwrap-unknown (b ∷ key) h e = rw e (record { answers = refl; same_out = refl; same_work = refl })
 
-  module _ (key : List ℕ) (some : length key ≡ 0 → ⊥) (named : Named) (found : named ≡ set_of (get_or key 0 0)) where
-    pub open_unknown : named ≡ Unknown → OpenEnds key cipher out work UnknownSet out work
-    open_unknown e = open_of UnknownSet out work key some named found (rw e (record { answers = refl; same_out = refl; same_work = refl }))
+  module _ (s : Set) (b : Answer) (out₂ work₂ : List ℕ) where
+    pub open_is : (key : List ℕ) → (length key ≡ 0 → ⊥) → set_of (get_or key 0 0) ≡ Some s → OpenOf (Some s) key cipher out work b out₂ work₂ → OpenEnds key cipher out work b out₂ work₂
+    open_is [] h e o = absurd (h refl)
+    open_is (k ∷ key) h e o = rw e o
 
-    pub unwrap-unknown : named ≡ Unknown → UnwrapEnds key cipher out work UnknownSet out work
-    unwrap-unknown e = unwrap-of UnknownSet out work key some named found (rw e (record { answers = refl; same_out = refl; same_work = refl }))
-
-    module _ (s : Set) (e : named ≡ Known s) (b : Answer) (out₂ work₂ : List ℕ) where
-      pub open_is : OpenOf (Known s) key cipher out work b out₂ work₂ → OpenEnds key cipher out work b out₂ work₂
-      open_is o = open_of b out₂ work₂ key some named found (rw e o)
-
-      pub unwrap-is : UnwrapOf (Known s) key cipher out work b out₂ work₂ → UnwrapEnds key cipher out work b out₂ work₂
-      unwrap-is o = unwrap-of b out₂ work₂ key some named found (rw e o)
+    pub unwrap-is : (key : List ℕ) → (length key ≡ 0 → ⊥) → set_of (get_or key 0 0) ≡ Some s → UnwrapOf (Some s) key cipher out work b out₂ work₂ → UnwrapEnds key cipher out work b out₂ work₂
+    unwrap-is [] h e o = absurd (h refl)
+    unwrap-is (k ∷ key) h e o = rw e o

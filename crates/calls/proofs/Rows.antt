@@ -1,5 +1,5 @@
 -- What the calls ask of a set beside `Valid`: one test, computed for each row of the table.
-use mathlib.Core.Path.{◌≡◌, refl, sym, ◌∙◌}
+use mathlib.Core.Path.{◌≡◌, refl, sym}
 use mathlib.Core.Bool.{Bool, ◌&&◌, true, false}
 use Prim.Native.Nat.{ℕ, ◌+◌, ◌*◌}
 use lib.Dec.{eqb, leb, ltb}
@@ -8,8 +8,8 @@ use native.Mathlib.Omega.{arith}
 use native.Mathlib.Decide.{ℕ_discrete}
 use Rattle.gf.specs.Field.{width}
 use Rattle.sets.specs.declared.Set.{Set}
-use Rattle.sets.specs.declared.Named.{Named}
-use Rattle.sets.specs.declared.Named.TheVariants.{Known}
+use Rattle.std.specs.Prelude.{Option, Some, None, option_map}
+use Rattle.sets.specs.declared.ParameterSet.{ParameterSet}
 use Rattle.sets.specs.Table.{set6, set1, set_of}
 use Rattle.sets.specs.Valid.{Valid}
 use Rattle.sets.proofs.Valid.{known, of-0x16, of-0x11, of_none}
@@ -46,7 +46,7 @@ passed s v h =
       room = leb-true _ _ f;
     }
 
-pub open-serves : (byte : ℕ) (s : Set) → set_of byte ≡ Known s → OpenServes s
+pub open-serves : (byte : ℕ) (s : Set) → set_of byte ≡ Some s → OpenServes s
 unfolding tests
 open-serves byte s e = passed s (known byte s e).valid (go (ℕ_discrete byte 0x16) (ℕ_discrete byte 0x11))
   where
@@ -55,13 +55,20 @@ open-serves byte s e = passed s (known byte s e).valid (go (ℕ_discrete byte 0x
     go (no n) (yes q) = let same : s ≡ set1 = cc (of-0x11 byte set1 n q refl) in rw same
     go (no n) (no o) = absurd (let z : ◌≡◌ {A = ℕ} 0 1 = cc (of_none byte n o) in omega arith)
 
-pub serves : (byte : ℕ) (s : Set) → set_of byte ≡ Known s → Serves s
+pub serves : (byte : ℕ) (s : Set) → set_of byte ≡ Some s → Serves s
 serves byte s e = (open-serves byte s e).serves
 
--- what was found for a byte serves
-module _ (byte : ℕ) (named : Named) (found : named ≡ set_of byte) (s : Set) (e : named ≡ Known s) where
-  pub found-serves : Serves s
-  found-serves = serves byte s (sym found ∙ e)
+-- ---- what `find` answers
+module _ (byte : ℕ) (r : Option ParameterSet) (is : option_map (λ (p : ParameterSet). p.set) r ≡ set_of byte) where
+  pub no_set : r ≡ None → set_of byte ≡ None
+  no_set e = sym (rw e at is)
 
-  pub found-open-serves : OpenServes s
-  found-open-serves = open-serves byte s (sym found ∙ e)
+  module _ (p : ParameterSet) (e : r ≡ Some p) where
+    pub the_set : set_of byte ≡ Some p.set
+    the_set = sym (rw e at is)
+
+    pub set_serves : Serves p.set
+    set_serves = serves byte p.set the_set
+
+    pub set_open_serves : OpenServes p.set
+    set_open_serves = open-serves byte p.set the_set

@@ -10,8 +10,7 @@ use lib.ListN.{length, get_or, drop, replicate, length-replicate, replicate-appe
 use lib.Seq.{drop_at}
 use borrow.Author.Tests.{eq-eqb, ne_eqb, le-leb, lt-leb, lt-ltb, le-ltb, eqb-true, not-true, not-false}
 use Rattle.sets.specs.declared.Set.{Set}
-use Rattle.sets.specs.declared.Named.{Named}
-use Rattle.sets.specs.declared.Named.TheVariants.{Known, Unknown}
+use Rattle.std.specs.Prelude.{Some, None}
 use Rattle.sets.specs.Table.{set_of}
 use Rattle.scheme.specs.declared.Answer.TheVariants.{Done, UnknownSet, WrongLength, ZeroValues, WrongSecret}
 use Rattle.scheme.specs.Sealing.{first_fitting, secret_message}
@@ -110,27 +109,27 @@ module _ (s : Set) (key random cipher work : List ℕ) (t : Bool) (is : t ≡ se
         }
 
   module _ (msg : List ℕ) where
-    pub seal-wrong : not t ≡ true → seal_end WrongLength cipher work ≡ seal_of (Known s) key random msg cipher work
+    pub seal-wrong : not t ≡ true → seal_end WrongLength cipher work ≡ seal_of (Some s) key random msg cipher work
     seal-wrong h = rw (← is, not-true t h)
 
-    pub wrap-wrong : not t ≡ true → seal_end WrongLength cipher work ≡ wrap_of (Known s) key random msg cipher work
+    pub wrap-wrong : not t ≡ true → seal_end WrongLength cipher work ≡ wrap_of (Some s) key random msg cipher work
     wrap-wrong h = rw (← is, not-true t h)
 
   module _ (msg : List ℕ) (h : not t ≡ false) where
-    pub seal-other : (length msg ≡ s.k1 → ⊥) → seal_end WrongLength cipher work ≡ seal_of (Known s) key random msg cipher work
+    pub seal-other : (length msg ≡ s.k1 → ⊥) → seal_end WrongLength cipher work ≡ seal_of (Some s) key random msg cipher work
     seal-other d = rw (right h, ne_eqb (length msg) s.k1 d)
 
-    pub seal-done : length msg ≡ s.k1 → (x : SealEnd) → x ≡ after_seal s key random msg cipher work → x ≡ seal_of (Known s) key random msg cipher work
+    pub seal-done : length msg ≡ s.k1 → (x : SealEnd) → x ≡ after_seal s key random msg cipher work → x ≡ seal_of (Some s) key random msg cipher work
     seal-done d x q = q ∙ sym (rw (right h, eq-eqb (length msg) s.k1 d))
 
-    pub wrap-short : length msg < 1 → seal_end WrongSecret cipher work ≡ wrap_of (Known s) key random msg cipher work
+    pub wrap-short : length msg < 1 → seal_end WrongSecret cipher work ≡ wrap_of (Some s) key random msg cipher work
     wrap-short d = rw (right h, lt-leb 1 (length msg) d)
 
     module _ (o : 1 ≤ length msg) where
-      pub wrap-long : s.k1 < length msg → seal_end WrongSecret cipher work ≡ wrap_of (Known s) key random msg cipher work
+      pub wrap-long : s.k1 < length msg → seal_end WrongSecret cipher work ≡ wrap_of (Some s) key random msg cipher work
       wrap-long d = rw (right h, le-leb 1 (length msg) o, lt-leb (length msg) s.k1 d)
 
-      pub wrap-done : length msg ≤ s.k1 → (x : SealEnd) → x ≡ after_seal s key random (secret_message s msg) cipher work → x ≡ wrap_of (Known s) key random msg cipher work
+      pub wrap-done : length msg ≤ s.k1 → (x : SealEnd) → x ≡ after_seal s key random (secret_message s msg) cipher work → x ≡ wrap_of (Some s) key random msg cipher work
       wrap-done d x q = q ∙ sym (rw (right h, le-leb 1 (length msg) o, le-leb (length msg) s.k1 d))
 
 -- ---- the key's first byte
@@ -145,26 +144,23 @@ module _ (random msg cipher work : List ℕ) where
   wrap-empty [] h = refl
   wrap-empty (b ∷ key) h = absurd (omega arith)
 
-  seal-of : (key : List ℕ) → (length key ≡ 0 → ⊥) → (named : Named) → named ≡ set_of (get_or key 0 0) → seal_ends key random msg cipher work ≡ seal_of named key random msg cipher work
+  pub seal-unknown : (key : List ℕ) → (length key ≡ 0 → ⊥) → set_of (get_or key 0 0) ≡ None → seal_end UnknownSet cipher work ≡ seal_ends key random msg cipher work
   unfolding seal_ends
-  seal-of [] h named q = absurd (h refl)
-  seal-of (b ∷ key) h named q = rw q
+  seal-unknown [] h e = absurd (h refl)
+  seal-unknown (b ∷ key) h e = rw e
 
-  wrap-of : (key : List ℕ) → (length key ≡ 0 → ⊥) → (named : Named) → named ≡ set_of (get_or key 0 0) → wrap_ends key random msg cipher work ≡ wrap_of named key random msg cipher work
+  pub wrap-unknown : (key : List ℕ) → (length key ≡ 0 → ⊥) → set_of (get_or key 0 0) ≡ None → seal_end UnknownSet cipher work ≡ wrap_ends key random msg cipher work
   unfolding wrap_ends
-  wrap-of [] h named q = absurd (h refl)
-  wrap-of (b ∷ key) h named q = rw q
+  wrap-unknown [] h e = absurd (h refl)
+  wrap-unknown (b ∷ key) h e = rw e
 
-  module _ (key : List ℕ) (some : length key ≡ 0 → ⊥) (named : Named) (found : named ≡ set_of (get_or key 0 0)) where
-    pub seal-unknown : named ≡ Unknown → seal_end UnknownSet cipher work ≡ seal_ends key random msg cipher work
-    seal-unknown e = rw (seal-of key some named found, e)
+  module _ (s : Set) (x : SealEnd) where
+    pub seal-is : (key : List ℕ) → (length key ≡ 0 → ⊥) → set_of (get_or key 0 0) ≡ Some s → x ≡ seal_of (Some s) key random msg cipher work → x ≡ seal_ends key random msg cipher work
+    unfolding seal_ends
+    seal-is [] h e q = absurd (h refl)
+    seal-is (b ∷ key) h e q = q ∙ sym (rw e)
 
-    pub wrap-unknown : named ≡ Unknown → seal_end UnknownSet cipher work ≡ wrap_ends key random msg cipher work
-    wrap-unknown e = rw (wrap-of key some named found, e)
-
-    module _ (s : Set) (e : named ≡ Known s) (x : SealEnd) where
-      pub seal-is : x ≡ seal_of (Known s) key random msg cipher work → x ≡ seal_ends key random msg cipher work
-      seal-is q = q ∙ sym (rw (seal-of key some named found, e))
-
-      pub wrap-is : x ≡ wrap_of (Known s) key random msg cipher work → x ≡ wrap_ends key random msg cipher work
-      wrap-is q = q ∙ sym (rw (wrap-of key some named found, e))
+    pub wrap-is : (key : List ℕ) → (length key ≡ 0 → ⊥) → set_of (get_or key 0 0) ≡ Some s → x ≡ wrap_of (Some s) key random msg cipher work → x ≡ wrap_ends key random msg cipher work
+    unfolding wrap_ends
+    wrap-is [] h e q = absurd (h refl)
+    wrap-is (b ∷ key) h e q = q ∙ sym (rw e)

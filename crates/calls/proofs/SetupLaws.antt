@@ -6,8 +6,7 @@ use Prim.Native.Nat.{ℕ}
 use lib.ListN.{length}
 use borrow.Author.Tests.{eq-eqb, ne_eqb, eqb-true, not-true, not-false}
 use Rattle.sets.specs.declared.Set.{Set}
-use Rattle.sets.specs.declared.Named.{Named}
-use Rattle.sets.specs.declared.Named.TheVariants.{Known, Unknown}
+use Rattle.std.specs.Prelude.{Some, None}
 use Rattle.sets.specs.Table.{set_of}
 use Rattle.scheme.specs.declared.Answer.{Answer}
 use Rattle.scheme.specs.declared.Answer.TheVariants.{Done, UnknownSet, WrongLength, FewMultipliers, FewElements, NoWindow, Dependent}
@@ -18,7 +17,7 @@ use Rattle.making.specs.declared.Made.TheVariants.{Pair, FewMultipliers as Few, 
 use Rattle.making.specs.Stages.{Given, Makes}
 use Rattle.calls.specs.Ends.{setup_end, MadeWiped, Refused}
 use Rattle.calls.specs.Given.{Serves}
-use Rattle.calls.proofs.Rows.{both, serves}
+use Rattle.calls.proofs.Rows.{both}
 
 -- ---- the lengths
 module _ (s : Set) (random public private work : ℕ) where
@@ -70,37 +69,39 @@ module _ (s : Set) (random work work₁ : List ℕ) (r : Made) (public₁ privat
       pub dependent : r ≡ Dep → Refused Dependent b public₁ private₁ public₂ private₂ → setup_end b public₂ private₂ work₁ ≡ after_setup (setup s random) public private work
       dependent e = refused Dependent (rw e at w.makes)
 
--- ---- the first checks
-module _ (byte : ℕ) (random public private work : List ℕ) (named : Named) (found : named ≡ set_of byte) where
-  pub unknown-set : named ≡ Unknown → setup_end UnknownSet public private work ≡ setup_ends byte random public private work
-  unfolding setup_ends
-  unknown-set e = rw (← found, e)
+-- ---- the lengths of a set that serves
+module _ (s : Set) (random public private work : List ℕ) (t : Bool) (is : t ≡ setup_lengths s (length random) (length public) (length private) (length work)) (h : not t ≡ false) where
+  pub given : Serves s → Given s random public private work
+  given v =
+      let right : setup_lengths s (length random) (length public) (length private) (length work) ≡ true = sym is ∙ not-false t h in
+      let (a, p) = both _ _ right in
+      let (b, q) = both _ _ p in
+      let (c, d) = both _ _ q in
+      record {
+        valid = v.valid;
+        field = v.field;
+        byte = v.byte;
+        long_random = eqb-true _ _ a;
+        long_public = eqb-true _ _ b;
+        long_private = eqb-true _ _ c;
+        long_work = eqb-true _ _ d;
+      }
 
-  module _ (s : Set) (e : named ≡ Known s) (t : Bool) (is : t ≡ setup_lengths s (length random) (length public) (length private) (length work)) where
+-- ---- the first checks
+module _ (byte : ℕ) (random public private work : List ℕ) where
+  pub unknown-set : set_of byte ≡ None → setup_end UnknownSet public private work ≡ setup_ends byte random public private work
+  unfolding setup_ends
+  unknown-set e = rw (e)
+
+  module _ (s : Set) (e : set_of byte ≡ Some s) (t : Bool) (is : t ≡ setup_lengths s (length random) (length public) (length private) (length work)) where
     pub wrong-length : not t ≡ true → setup_end WrongLength public private work ≡ setup_ends byte random public private work
     unfolding setup_ends
-    wrong-length h = rw (← found, e, ← is, not-true t h)
+    wrong-length h = rw (e, ← is, not-true t h)
 
     module _ (h : not t ≡ false) where
       right : setup_lengths s (length random) (length public) (length private) (length work) ≡ true
       right = sym is ∙ not-false t h
 
-      pub given : Given s random public private work
-      given =
-          let v : Serves s = serves byte s (sym found ∙ e) in
-          let (a, p) = both _ _ right in
-          let (b, q) = both _ _ p in
-          let (c, d) = both _ _ q in
-          record {
-            valid = v.valid;
-            field = v.field;
-            byte = v.byte;
-            long_random = eqb-true _ _ a;
-            long_public = eqb-true _ _ b;
-            long_private = eqb-true _ _ c;
-            long_work = eqb-true _ _ d;
-          }
-
       pub checked : (x : SetupEnd) → x ≡ after_setup (setup s random) public private work → x ≡ setup_ends byte random public private work
       unfolding setup_ends
-      checked x q = q ∙ sym (rw (← found, e, right))
+      checked x q = q ∙ sym (rw (e, right))

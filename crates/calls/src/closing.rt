@@ -1,6 +1,5 @@
 // Sealing a message and wrapping a secret under a public key (01, Padding, sealing, opening).
-ghost use Rattle.std.specs.Prelude.{◌≡◌, ◌<◌, ◌≤◌, length};
-ghost use Rattle.sets.specs.declared.Named.TheVariants.{Known};
+ghost use Rattle.std.specs.Prelude.{Some, ◌≡◌, ◌<◌, ◌≤◌, length};
 ghost use Rattle.scheme.specs.Sealing.{secret_message};
 ghost use Rattle.scheme.specs.Calls.{seal_lengths, after_seal, seal_of, seal_ends, wrap_of, wrap_ends};
 ghost use Rattle.calls.specs.Given.{Serves, SealGiven};
@@ -10,7 +9,7 @@ use crate::space::room;
 use lists::{wipe_bytes, wipe_numbers};
 use scheme::Answer;
 use sealing::Sealed;
-use sets::{Named, Set};
+use sets::Set;
 
 // Whether the lengths are those of the set, and the random bytes from 1 to 16 blocks.
 fn right_lengths(s: Set, key: usize, random: usize, cipher: usize, work: usize) -> bool
@@ -73,7 +72,7 @@ fn seal_known(
     work: &mut [u16],
 ) -> Answer
     requires { Serves s }
-    ensures { seal_end result cipher.new work.new ≡ seal_of (Known s) key.now random.now message.now cipher.old work.old }
+    ensures { seal_end result cipher.new work.new ≡ seal_of (Some s) key.now random.now message.now cipher.old work.old }
 {
     if !right_lengths(s, key.len(), random.len(), cipher.len(), work.len()) {
         return Answer::WrongLength;
@@ -102,11 +101,10 @@ pub fn seal(
     if key.len() == 0 {
         return Answer::WrongLength;
     }
-    let named = sets::find(key[0]);
-    let Named::Known(s) = named else {
+    let Some(parameters) = sets::find(key[0]) else {
         return Answer::UnknownSet;
     };
-    seal_known(s, key, random, message, cipher, work)
+    seal_known(parameters.set, key, random, message, cipher, work)
 }
 
 // Wrapping past the first checks, with room for the message.
@@ -159,7 +157,7 @@ fn wrap_known(
     work: &mut [u16],
 ) -> Answer
     requires { Serves s }
-    ensures { seal_end result cipher.new work.new ≡ wrap_of (Known s) key.now random.now secret.now cipher.old work.old }
+    ensures { seal_end result cipher.new work.new ≡ wrap_of (Some s) key.now random.now secret.now cipher.old work.old }
 {
     if !right_lengths(s, key.len(), random.len(), cipher.len(), work.len()) {
         return Answer::WrongLength;
@@ -183,9 +181,8 @@ pub fn wrap(key: &[u8], random: &[u8], secret: &[u8], cipher: &mut [u8], work: &
     if key.len() == 0 {
         return Answer::WrongLength;
     }
-    let named = sets::find(key[0]);
-    let Named::Known(s) = named else {
+    let Some(parameters) = sets::find(key[0]) else {
         return Answer::UnknownSet;
     };
-    wrap_known(s, key, random, secret, cipher, work)
+    wrap_known(parameters.set, key, random, secret, cipher, work)
 }

@@ -1,6 +1,5 @@
 // Opening a ciphertext and unwrapping a secret with a private key (01, Padding, sealing, opening).
-ghost use Rattle.std.specs.Prelude.{◌≡◌, ◌≤◌, length};
-ghost use Rattle.sets.specs.declared.Named.TheVariants.{Known};
+ghost use Rattle.std.specs.Prelude.{Some, ◌≡◌, ◌≤◌, length};
 ghost use Rattle.scheme.specs.Opening.{Opens};
 ghost use Rattle.scheme.specs.Calls.{open_lengths, Opening, GivesSecret, OpenOf, OpenEnds, UnwrapOf, UnwrapEnds};
 ghost use Rattle.opening.specs.Ending.{OpenGiven};
@@ -11,7 +10,7 @@ use crate::space::room;
 use lists::{wipe_bytes, wipe_numbers};
 use opening::Opened;
 use scheme::Answer;
-use sets::{Named, Set};
+use sets::Set;
 
 // Whether the lengths are those of the set.
 fn right_lengths(s: Set, key: usize, cipher: usize, work: usize) -> bool
@@ -64,7 +63,7 @@ fn open_checked(s: Set, key: &[u8], cipher: &[u8], message: &mut [u8], work: &mu
 // Opening for a set that is known.
 fn open_known(s: Set, key: &[u8], cipher: &[u8], message: &mut [u8], work: &mut [u16]) -> Answer
     requires { OpenServes s }
-    ensures { OpenOf (Known s) key.now cipher.now message.old work.old result message.new work.new }
+    ensures { OpenOf (Some s) key.now cipher.now message.old work.old result message.new work.new }
 {
     if !right_lengths(s, key.len(), cipher.len(), work.len()) {
         return Answer::WrongLength;
@@ -86,11 +85,10 @@ pub fn open(key: &[u8], cipher: &[u8], message: &mut [u8], work: &mut [u16]) -> 
     if key.len() == 0 {
         return Answer::WrongLength;
     }
-    let named = sets::find(key[0]);
-    let Named::Known(s) = named else {
+    let Some(parameters) = sets::find(key[0]) else {
         return Answer::UnknownSet;
     };
-    open_known(s, key, cipher, message, work)
+    open_known(parameters.set, key, cipher, message, work)
 }
 
 // The first bytes of the message, as many as the secret has.
@@ -142,7 +140,7 @@ fn unwrap_checked(s: Set, key: &[u8], cipher: &[u8], secret: &mut [u8], work: &m
 // Unwrapping for a set that is known.
 fn unwrap_known(s: Set, key: &[u8], cipher: &[u8], secret: &mut [u8], work: &mut [u16]) -> Answer
     requires { OpenServes s }
-    ensures { UnwrapOf (Known s) key.now cipher.now secret.old work.old result secret.new work.new }
+    ensures { UnwrapOf (Some s) key.now cipher.now secret.old work.old result secret.new work.new }
 {
     if !right_lengths(s, key.len(), cipher.len(), work.len()) {
         return Answer::WrongLength;
@@ -166,9 +164,8 @@ pub fn unwrap(key: &[u8], cipher: &[u8], secret: &mut [u8], work: &mut [u16]) ->
     if key.len() == 0 {
         return Answer::WrongLength;
     }
-    let named = sets::find(key[0]);
-    let Named::Known(s) = named else {
+    let Some(parameters) = sets::find(key[0]) else {
         return Answer::UnknownSet;
     };
-    unwrap_known(s, key, cipher, secret, work)
+    unwrap_known(parameters.set, key, cipher, secret, work)
 }

@@ -8,7 +8,7 @@ ghost use Rattle.calls.specs.Ends.{setup_end, MadeWiped, Refused};
 use lists::{wipe_bytes, wipe_numbers};
 use making::Made;
 use scheme::Answer;
-use sets::{Named, Set};
+use sets::Set;
 
 // Whether the lengths are those of the set.
 fn right_lengths(s: Set, random: usize, public: usize, private: usize, work: usize) -> bool
@@ -88,10 +88,10 @@ pub fn setup(
 ) -> Answer
     ensures { setup_end result public.new private.new work.new ≡ setup_ends byte random.now public.old private.old work.old }
 {
-    let named = sets::find(byte);
-    let Named::Known(s) = named else {
+    let Some(parameters) = sets::find(byte) else {
         return Answer::UnknownSet;
     };
+    let s = parameters.set;
     if !right_lengths(s, random.len(), public.len(), private.len(), work.len()) {
         return Answer::WrongLength;
     }

@@ -10,8 +10,7 @@ use borrow.Author.Tests.{eqb-true}
 use Rattle.lists.specs.Loops.{pick}
 use Rattle.bits.specs.Bits.{Small}
 use Rattle.sets.specs.declared.Set.{Set}
-use Rattle.sets.specs.declared.Named.{Named}
-use Rattle.sets.specs.declared.Named.TheVariants.{Known, Unknown}
+use Rattle.std.specs.Prelude.{Option, Some, None}
 use Rattle.sets.specs.Table.{set_of}
 use Rattle.scheme.specs.declared.Answer.TheVariants.{Done, WrongLength}
 use Rattle.scheme.specs.Setup.{Made, made, fails, setup}
@@ -27,7 +26,7 @@ use Rattle.demands.proofs.Demands.{known-demands}
 -- its set, and that its keys are a pair of ours
 pub record Founded (byte : ℕ) (work : List ℕ) (r : SetupEnd) : Type 0 where
   pub s : Set
-  pub named : set_of byte ≡ Known s
+  pub named : set_of byte ≡ Some s
   pub ours : Ours s r.public r.private
   pub area : length work ≡ s.work
 
@@ -35,12 +34,12 @@ module _ (byte : ℕ) (random public private work : List ℕ) (count : ℕ) (sma
   abbrev Gives : SetupEnd → Type 0
   Gives r = r.answer ≡ Done count → Founded byte work r
 
-  of-made : (s : Set) → set_of byte ≡ Known s → length random ≡ s.random → length work ≡ s.work → (m : Made) → setup s random ≡ m → Gives (after_setup m public private work)
+  of-made : (s : Set) → set_of byte ≡ Some s → length random ≡ s.random → length work ≡ s.work → (m : Made) → setup s random ≡ m → Gives (after_setup m public private work)
   of-made s n long area (made p q c) e a =
       record { s = s; named = n; ours = record { random = random; long = long; bytes = small; count = c; is = e }; area = area }
   of-made s n long area (fails x) e a = absurd (subst (λ (m : Made). Refuses m) (e ∙ ap fails a) (setup-refuses s random))
 
-  of-lengths : (s : Set) → set_of byte ≡ Known s → (b : Bool) → setup_lengths s (length random) (length public) (length private) (length work) ≡ b
+  of-lengths : (s : Set) → set_of byte ≡ Some s → (b : Bool) → setup_lengths s (length random) (length public) (length private) (length work) ≡ b
       → Gives (pick b (after_setup (setup s random) public private work) (record { answer = WrongLength; public = public; private = private; work = work }))
   of-lengths s n true e a =
       let r = eqb (length random) s.random in
@@ -54,16 +53,16 @@ module _ (byte : ℕ) (random public private work : List ℕ) (count : ℕ) (sma
   unfolding setup_ends
   founded = go (set_of byte) refl
     where
-      go : (k : Named) → set_of byte ≡ k → Gives (setup_of k random public private work)
-      go (Known s) e a = of-lengths s e (setup_lengths s (length random) (length public) (length private) (length work)) refl a
-      go Unknown e a = absurd (let z : ◌≡◌ {A = ℕ} 0 1 = cc in omega arith)
+      go : (k : Option Set) → set_of byte ≡ k → Gives (setup_of k random public private work)
+      go (Some s) e a = of-lengths s e (setup_lengths s (length random) (length public) (length private) (length work)) refl a
+      go None e a = absurd (let z : ◌≡◌ {A = ℕ} 0 1 = cc in omega arith)
 
 -- ---- the length of what was sealed
 module _ (s : Set) (key random msg cipher work : List ℕ) (b : ℕ) where
   abbrev Sized : SealEnd → Type 0
   Sized r = r.answer ≡ Done b → length msg ≡ s.k1
 
-  pub sealed-size : set_of (get_or key 0 0) ≡ Known s → Sized (seal_ends key random msg cipher work)
+  pub sealed-size : set_of (get_or key 0 0) ≡ Some s → Sized (seal_ends key random msg cipher work)
   unfolding seal_ends
   sealed-size named = go key refl
     where
@@ -75,7 +74,7 @@ module _ (s : Set) (key random msg cipher work : List ℕ) (b : ℕ) where
       go : (k : List ℕ) → k ≡ key → Sized (seal_ends k random msg cipher work)
       go [] q a = absurd (let z : ◌≡◌ {A = ℕ} 0 1 = cc in omega arith)
       go (byte ∷ k) q a =
-          let names : set_of byte ≡ Known s = ap (λ (l : List ℕ). set_of (get_or l 0 0)) q ∙ named in
+          let names : set_of byte ≡ Some s = ap (λ (l : List ℕ). set_of (get_or l 0 0)) q ∙ named in
           lengths (byte ∷ k) (seal_lengths s (length (byte ∷ k)) (length random) (length cipher) (length work)) (eqb (length msg) s.k1) refl (rw names at a)
 
 -- ---- all the way
@@ -91,7 +90,7 @@ pub sealed-arrives : SealedArrives
 sealed-arrives byte first public private work count small d random msg cipher work₁ b sr sm e out work₂ out' work' answer lo lw o =
     let f = F byte first public private work count small d in
     let G = (D byte first public private work count small d).setup_good _ _ f.ours in
-    let named : set_of (get_or (setup_ends byte first public private work).public 0 0) ≡ Known f.s = ap set_of G.public_byte ∙ ap set_of (known byte f.s f.named).names ∙ f.named in
+    let named : set_of (get_or (setup_ends byte first public private work).public 0 0) ≡ Some f.s = ap set_of G.public_byte ∙ ap set_of (known byte f.s f.named).names ∙ f.named in
     (D byte first public private work count small d).seal_opens _ _ f.ours random msg cipher work₁ b sr sm e out work₂ out' work' answer
     (lo ∙ sealed-size f.s (setup_ends byte first public private work).public random msg cipher work₁ b named e) (lw ∙ f.area) o
 

@@ -11,7 +11,7 @@ use Rattle.lists.specs.Loops.{pick}
 use Rattle.gf.specs.Field.{width}
 use Rattle.bits.specs.Bits.{Small}
 use Rattle.sets.specs.declared.Set.{Set}
-use Rattle.sets.specs.declared.Named.TheVariants.{Known}
+use Rattle.std.specs.Prelude.{Some}
 use Rattle.sets.specs.Table.{set_of}
 use Rattle.sets.specs.Valid.{Valid}
 use Rattle.scheme.specs.declared.Answer.{Answer}
@@ -41,7 +41,7 @@ second-of true b e = e
 second-of false b e = absurd (false≢true e)
 
 -- ---- opening
-module _ (s : Set) (ok : Valid s) (e : width (field_of s) ≡ s.m) (named : set_of s.byte ≡ Known s) (public private : List ℕ) (G : GoodPair s public private) where
+module _ (s : Set) (ok : Valid s) (e : width (field_of s) ≡ s.m) (named : set_of s.byte ≡ Some s) (public private : List ℕ) (G : GoodPair s public private) where
   module _ (cipher out work out' work' : List ℕ) (long : length cipher ≡ s.cipher) (bytes : Small 8 cipher) (room : length out ≡ s.k1) (area : length work ≡ s.work) where
     by-case : (answer : Answer) → OpenCase s private cipher (Opens s private cipher) out answer out' → Answered s public cipher out answer out'
     by-case (Done count) (z, w, n, o) = rw z (opened ((promised s ok e public private G).exactly.only cipher out' long bytes o))
@@ -65,7 +65,7 @@ module _ (s : Set) (ok : Valid s) (e : width (field_of s) ≡ s.m) (named : set_
     checked true answer t o = by-case answer o.case
     checked false answer t o = absurd (false≢true t)
 
-    of-set : (answer : Answer) → OpenOf (Known s) private cipher out work answer out' work' → Answered s public cipher out answer out'
+    of-set : (answer : Answer) → OpenOf (Some s) private cipher out work answer out' work' → Answered s public cipher out answer out'
     of-set answer o = checked _ answer lengths o
 
     pub open-answers : (answer : Answer) → OpenEnds private cipher out work answer out' work' → Answered s public cipher out answer out'
@@ -74,11 +74,11 @@ module _ (s : Set) (ok : Valid s) (e : width (field_of s) ≡ s.m) (named : set_
         go : (k : List ℕ) → k ≡ private → OpenEnds k cipher out work answer out' work' → Answered s public cipher out answer out'
         go [] q o = absurd (omega (arith, ap length q, G.private_long, ok.private_is))
         go (byte ∷ k) q o =
-            let names : set_of byte ≡ Known s = ap (λ (l : List ℕ). set_of (get_or l 0 0)) q ∙ ap set_of G.private_byte ∙ named in
+            let names : set_of byte ≡ Some s = ap (λ (l : List ℕ). set_of (get_or l 0 0)) q ∙ ap set_of G.private_byte ∙ named in
             of-set answer (rw (q, names) at o)
 
 -- ---- sealing
-module _ (s : Set) (ok : Valid s) (named : set_of s.byte ≡ Known s) (public random msg cipher work : List ℕ) (b : ℕ)
+module _ (s : Set) (ok : Valid s) (named : set_of s.byte ≡ Some s) (public random msg cipher work : List ℕ) (b : ℕ)
     (small : Small 8 random) (bytes : Small 8 msg) where
   -- the end gives the answer b, and its ciphertext is that of a triple with the message
   abbrev Gives : SealEnd → Type 0
@@ -97,7 +97,7 @@ module _ (s : Set) (ok : Valid s) (named : set_of s.byte ≡ Known s) (public ra
               unfold first_fitting in first-there (λ b. fits s msg (block_at s random b)) (length random / s.block) 0 (let e : 0 + length random / s.block ≡ length random / s.block = omega arith in rw e h)
       go false q a = absurd (let z : ◌≡◌ {A = ℕ} 0 1 = cc in omega arith)
 
-  of-known : Gives (seal_of (Known s) public random msg cipher work)
+  of-known : Gives (seal_of (Some s) public random msg cipher work)
   of-known = go (seal_lengths s (length public) (length random) (length cipher) (length work) && eqb (length msg) s.k1) refl
     where
       go : (t : Bool) → seal_lengths s (length public) (length random) (length cipher) (length work) && eqb (length msg) s.k1 ≡ t
@@ -115,11 +115,11 @@ module _ (s : Set) (ok : Valid s) (named : set_of s.byte ≡ Known s) (public ra
       go : (k : List ℕ) → k ≡ public → (seal_ends k random msg cipher work).answer ≡ Done b → Sealed s public (seal_ends k random msg cipher work).cipher msg
       go [] q = absurd (omega (arith, ap length q))
       go (byte ∷ k) q =
-          let names : set_of byte ≡ Known s = ap (λ (l : List ℕ). set_of (get_or l 0 0)) q ∙ ap set_of byte-is ∙ named in
-          rw names (subst (λ (l : List ℕ). Gives (seal_of (Known s) l random msg cipher work)) (sym q) of-known)
+          let names : set_of byte ≡ Some s = ap (λ (l : List ℕ). set_of (get_or l 0 0)) q ∙ ap set_of byte-is ∙ named in
+          rw names (subst (λ (l : List ℕ). Gives (seal_of (Some s) l random msg cipher work)) (sym q) of-known)
 
 -- ---- both
-module _ (s : Set) (ok : Valid s) (e : width (field_of s) ≡ s.m) (named : set_of s.byte ≡ Known s) where
+module _ (s : Set) (ok : Valid s) (e : width (field_of s) ≡ s.m) (named : set_of s.byte ≡ Some s) where
   -- an answer, of what was sealed with the message
   only-opened : (public private cipher before m : List ℕ) → GoodPair s public private → Sealed s public cipher m → (answer : Answer) (after : List ℕ)
       → Answered s public cipher before answer after → (answer ≡ Done 0) × (after ≡ m)

@@ -8,7 +8,7 @@ use lib.Dec.{eqb, leb, ltb}
 use lib.ListN.{length, get_or}
 use Rattle.lists.specs.Loops.{pick, first}
 use Rattle.sets.specs.declared.Set.{Set}
-use Rattle.sets.specs.declared.Named.TheVariants.{Known}
+use Rattle.std.specs.Prelude.{Some}
 use Rattle.sets.specs.Table.{set_of}
 use Rattle.scheme.specs.declared.Answer.TheVariants.{Done, WrongLength, ZeroValues, WrongSecret}
 use Rattle.scheme.specs.Sealing.{block_at, fits, first_fitting, sealed_by, secret_message}
@@ -78,8 +78,8 @@ module _ (s : Set) (msg random : List ℕ) where
       go true q = let h : first_fitting s msg random < blocks = lt-true _ _ q in (h, used h, passed)
       go false q = λ i h. passed i (omega (arith, lt-false (first_fitting s msg random) blocks q))
 
-module _ (s : Set) (named : set_of s.byte ≡ Known s) where
-  names : (key : List ℕ) (byte : ℕ) (k : List ℕ) → byte ∷ k ≡ key → get_or key 0 0 ≡ s.byte → set_of byte ≡ Known s
+module _ (s : Set) (named : set_of s.byte ≡ Some s) where
+  names : (key : List ℕ) (byte : ℕ) (k : List ℕ) → byte ∷ k ≡ key → get_or key 0 0 ≡ s.byte → set_of byte ≡ Some s
   names key byte k q e = ap (λ (l : List ℕ). set_of (get_or l 0 0)) q ∙ ap set_of e ∙ named
 
   -- THEOREM (seal, chooses). Sealing passes over exactly the blocks with a zero error value.

@@ -3,7 +3,7 @@ use mathlib.Core.Path.{◌≡◌, refl, ap, ◌∙◌}
 use Prim.Native.Nat.{ℕ}
 use Rattle.gf.specs.Field.{width}
 use Rattle.sets.specs.declared.Set.{Set}
-use Rattle.sets.specs.declared.Named.TheVariants.{Known}
+use Rattle.std.specs.Prelude.{Some}
 use Rattle.sets.specs.Table.{set_of, set6, set1}
 use Rattle.sets.specs.Valid.{Valid}
 use Rattle.sets.proofs.Valid.{Fit, known}
@@ -17,7 +17,7 @@ use Rattle.demands.proofs.Calls.{open-all, seal-opens}
 use Rattle.demands.proofs.Wrapping.{wrap-opens}
 use Rattle.demands.proofs.Choosing.{seal-chooses, wrap-chooses}
 
-pub demands : (s : Set) → Valid s → width (field_of s) ≡ s.m → set_of s.byte ≡ Known s → Demands s
+pub demands : (s : Set) → Valid s → width (field_of s) ≡ s.m → set_of s.byte ≡ Some s → Demands s
 demands s ok e named =
     record {
       at_most_one = at_most_one s ok e;
@@ -32,7 +32,7 @@ demands s ok e named =
     }
 
 -- THEOREM. All of it, of every set that a set byte names.
-pub known-demands : (byte : ℕ) (s : Set) → set_of byte ≡ Known s → Demands s
+pub known-demands : (byte : ℕ) (s : Set) → set_of byte ≡ Some s → Demands s
 known-demands byte s e =
     let f : Fit byte s = known byte s e in
     demands s f.valid (known-width byte s e) (ap set_of f.names ∙ e)

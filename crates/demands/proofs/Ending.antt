@@ -7,8 +7,7 @@ use lib.Dec.{eqb, leb, ltb}
 use lib.ListN.{length}
 use Rattle.lists.specs.Loops.{pick}
 use Rattle.sets.specs.declared.Set.{Set}
-use Rattle.sets.specs.declared.Named.{Named}
-use Rattle.sets.specs.declared.Named.TheVariants.{Known, Unknown}
+use Rattle.std.specs.Prelude.{Option, Some, None}
 use Rattle.sets.specs.Table.{set_of}
 use Rattle.scheme.specs.declared.Answer.{Answer}
 use Rattle.scheme.specs.declared.Answer.TheVariants.{Done, UnknownSet, WrongLength, FewMultipliers, FewElements, NoWindow, Dependent, Malformed, Singular, ZeroValues, NotOpened, WrongSecret}
@@ -94,9 +93,9 @@ module _ (random public private work : List ℕ) where
       lengths s true = after-ends (setup s random) (setup-refuses s random)
       lengths s false = (refl, refl, refl)
 
-      go : (k : Named) → Ends (setup_of k random public private work)
-      go Unknown = (refl, refl, refl)
-      go (Known s) = lengths s (setup_lengths s (length random) (length public) (length private) (length work))
+      go : (k : Option Set) → Ends (setup_of k random public private work)
+      go None = (refl, refl, refl)
+      go (Some s) = lengths s (setup_lengths s (length random) (length public) (length private) (length work))
 
 -- ---- sealing and wrapping
 module _ (random cipher work : List ℕ) where
@@ -120,9 +119,9 @@ module _ (random cipher work : List ℕ) where
   seal-ends [] msg = (refl, refl)
   seal-ends (byte ∷ key) msg = go (set_of byte)
     where
-      go : (k : Named) → Closes (seal_of k (byte ∷ key) random msg cipher work)
-      go Unknown = (refl, refl)
-      go (Known s) = checked s (byte ∷ key) msg (seal_lengths s (length (byte ∷ key)) (length random) (length cipher) (length work) && eqb (length msg) s.k1)
+      go : (k : Option Set) → Closes (seal_of k (byte ∷ key) random msg cipher work)
+      go None = (refl, refl)
+      go (Some s) = checked s (byte ∷ key) msg (seal_lengths s (length (byte ∷ key)) (length random) (length cipher) (length work) && eqb (length msg) s.k1)
 
   sized : (s : Set) (key msg : List ℕ) (b : Bool) → Closes (pick b (after_seal s key random msg cipher work) (record { answer = WrongSecret; cipher = cipher; work = work }))
   sized s key msg true = after-closes s key msg
@@ -137,9 +136,9 @@ module _ (random cipher work : List ℕ) where
       lengths s true = sized s (byte ∷ key) (secret_message s secret) (leb 1 (length secret) && leb (length secret) s.k1)
       lengths s false = (refl, refl)
 
-      go : (k : Named) → Closes (wrap_of k (byte ∷ key) random secret cipher work)
-      go Unknown = (refl, refl)
-      go (Known s) = lengths s (seal_lengths s (length (byte ∷ key)) (length random) (length cipher) (length work))
+      go : (k : Option Set) → Closes (wrap_of k (byte ∷ key) random secret cipher work)
+      go None = (refl, refl)
+      go (Some s) = lengths s (seal_lengths s (length (byte ∷ key)) (length random) (length cipher) (length work))
 
 -- ---- opening and unwrapping
 module _ (key cipher out work : List ℕ) (answer : Answer) (out' work' : List ℕ) where
@@ -177,9 +176,9 @@ module _ (key cipher out work : List ℕ) (answer : Answer) (out' work' : List �
   open-ends [] o = of_length o
   open-ends (byte ∷ k) o = go (set_of byte) o
     where
-      go : (n : Named) → OpenOf n (byte ∷ k) cipher out work answer out' work' → Discloses answer
-      go Unknown o = of-unknown o
-      go (Known s) o = open-checked s (byte ∷ k) (open_lengths s (length (byte ∷ k)) (length cipher) (length work) && eqb (length out) s.k1) o
+      go : (n : Option Set) → OpenOf n (byte ∷ k) cipher out work answer out' work' → Discloses answer
+      go None o = of-unknown o
+      go (Some s) o = open-checked s (byte ∷ k) (open_lengths s (length (byte ∷ k)) (length cipher) (length work) && eqb (length out) s.k1) o
 
   unwrap-sized : (s : Set) (k : List ℕ) (b : Bool) → UnwrapSized b s k cipher out work answer out' work' → Discloses answer
   unwrap-sized s k true o = by-case s k (GivesSecret s k cipher (length out)) answer o.case o.wiped
@@ -193,9 +192,9 @@ module _ (key cipher out work : List ℕ) (answer : Answer) (out' work' : List �
   unwrap-ends [] o = of_length o
   unwrap-ends (byte ∷ k) o = go (set_of byte) o
     where
-      go : (n : Named) → UnwrapOf n (byte ∷ k) cipher out work answer out' work' → Discloses answer
-      go Unknown o = of-unknown o
-      go (Known s) o = unwrap-checked s (byte ∷ k) (open_lengths s (length (byte ∷ k)) (length cipher) (length work)) o
+      go : (n : Option Set) → UnwrapOf n (byte ∷ k) cipher out work answer out' work' → Discloses answer
+      go None o = of-unknown o
+      go (Some s) o = unwrap-checked s (byte ∷ k) (open_lengths s (length (byte ∷ k)) (length cipher) (length work)) o
 
 -- THEOREM (demand 1).
 pub demand1 : Demand1

@@ -8,7 +8,7 @@ use lib.Dec.{ltb}
 use lib.ListN.{length}
 use borrow.Author.Tests.{eq-eqb}
 use Rattle.sets.specs.declared.Set.{Set}
-use Rattle.sets.specs.declared.Named.TheVariants.{Known}
+use Rattle.std.specs.Prelude.{Some}
 use Rattle.sets.specs.Table.{set_of}
 use Rattle.scheme.specs.declared.Answer.{Answer}
 use Rattle.scheme.specs.declared.Answer.TheVariants.{Done, ZeroValues}
@@ -28,7 +28,7 @@ lt_not a b h = go (ltb a b) refl
     go false e = e
     go true e = let q : a < b = lt-true a b e in absurd (omega arith)
 
-module _ (s : Set) (byte : ℕ) (named : set_of byte ≡ Known s) where
+module _ (s : Set) (byte : ℕ) (named : set_of byte ≡ Some s) where
   -- ---- setup
   module _ (random public private work : List ℕ) (L : SetupLent s random public private work) where
     setup-lengths : setup_lengths s (length random) (length public) (length private) (length work) ≡ true
@@ -79,14 +79,14 @@ module _ (s : Set) (byte : ℕ) (named : set_of byte ≡ Known s) where
     pub open-past : length out ≡ s.k1 → OpenEnds (byte ∷ key) cipher out work answer out' work'
         → OpenCase s (byte ∷ key) cipher (Opens s (byte ∷ key) cipher) out answer out'
     open-past h o =
-        let p : OpenOf (Known s) (byte ∷ key) cipher out work answer out' work' = rw named at o in
+        let p : OpenOf (Some s) (byte ∷ key) cipher out work answer out' work' = rw named at o in
         let q : OpenChecked true s (byte ∷ key) cipher out work answer out' work' = rw (both _ _ open-lengths (eq-eqb _ _ h)) at p in
         q.case
 
     pub unwrap-past : 1 ≤ length out → length out ≤ s.k1 → UnwrapEnds (byte ∷ key) cipher out work answer out' work'
         → OpenCase s (byte ∷ key) cipher (GivesSecret s (byte ∷ key) cipher (length out)) out answer out'
     unwrap-past g h o =
-        let p : UnwrapOf (Known s) (byte ∷ key) cipher out work answer out' work' = rw named at o in
+        let p : UnwrapOf (Some s) (byte ∷ key) cipher out work answer out' work' = rw named at o in
         let q : UnwrapChecked true s (byte ∷ key) cipher out work answer out' work' = rw open-lengths at p in
         let r : UnwrapSized true s (byte ∷ key) cipher out work answer out' work' = rw (both _ _ (true-le _ _ g) (true-le _ _ h)) at q in
         r.case

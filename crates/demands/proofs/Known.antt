@@ -5,12 +5,12 @@ use native.Mathlib.Omega.{arith}
 use native.Mathlib.Decide.{ℕ_discrete}
 use Rattle.gf.specs.Field.{width}
 use Rattle.sets.specs.declared.Set.{Set}
-use Rattle.sets.specs.declared.Named.TheVariants.{Known}
+use Rattle.std.specs.Prelude.{Some}
 use Rattle.sets.specs.Table.{set6, set1, set_of}
 use Rattle.sets.proofs.Valid.{of-0x16, of-0x11, of_none}
 use Rattle.scheme.specs.Field.{field_of}
 
-pub known-width : (byte : ℕ) (s : Set) → set_of byte ≡ Known s → width (field_of s) ≡ s.m
+pub known-width : (byte : ℕ) (s : Set) → set_of byte ≡ Some s → width (field_of s) ≡ s.m
 known-width byte s e = go (ℕ_discrete byte 0x16) (ℕ_discrete byte 0x11)
   where
     go : Dec (byte ≡ 0x16) → Dec (byte ≡ 0x11) → width (field_of s) ≡ s.m

@@ -8,8 +8,7 @@ use lib.ListN.{length, take}
 use borrow.Author.Tests.{eqb-true}
 use Rattle.gf.specs.Field.{width}
 use Rattle.sets.specs.declared.Set.{Set}
-use Rattle.sets.specs.declared.Named.{Named}
-use Rattle.sets.specs.declared.Named.TheVariants.{Known, Unknown}
+use Rattle.std.specs.Prelude.{Option, Some, None}
 use Rattle.sets.specs.Table.{set_of}
 use Rattle.sets.specs.Valid.{Valid}
 use Rattle.sets.proofs.Valid.{known}
@@ -98,7 +97,7 @@ module _ (s : Set) (ok : Valid s) (e : width (field_of s) ≡ s.m) (key cipher o
   open-checked true f p q = opening-once s key cipher out (Opens s key cipher) (one (f refl)) work a a' out₁ out₂ work₁ work₂ p q
   open-checked false f p q = untouched-once WrongLength out work a a' out₁ out₂ work₁ work₂ p q
 
-  pub open-known : OpenOf (Known s) key cipher out work a out₁ work₁ → OpenOf (Known s) key cipher out work a' out₂ work₂ → All
+  pub open-known : OpenOf (Some s) key cipher out work a out₁ work₁ → OpenOf (Some s) key cipher out work a' out₂ work₂ → All
   open-known =
       open-checked (open_lengths s (length key) (length cipher) (length work) && eqb (length out) s.k1)
       (λ t. long_of (first_of (open_lengths s (length key) (length cipher) (length work)) (eqb (length out) s.k1) t))
@@ -115,7 +114,7 @@ module _ (s : Set) (ok : Valid s) (e : width (field_of s) ≡ s.m) (key cipher o
   unwrap-checked true f p q = unwrap-sized (f refl) (leb 1 (length out) && leb (length out) s.k1) p q
   unwrap-checked false f p q = untouched-once WrongLength out work a a' out₁ out₂ work₁ work₂ p q
 
-  pub unwrap-known : UnwrapOf (Known s) key cipher out work a out₁ work₁ → UnwrapOf (Known s) key cipher out work a' out₂ work₂ → All
+  pub unwrap-known : UnwrapOf (Some s) key cipher out work a out₁ work₁ → UnwrapOf (Some s) key cipher out work a' out₂ work₂ → All
   unwrap-known = unwrap-checked (open_lengths s (length key) (length cipher) (length work)) long_of
 
 -- ---- all inputs
@@ -125,17 +124,17 @@ pub open-once : OpenOnce
 open-once [] cipher out work a a' out₁ out₂ work₁ work₂ p q = untouched-once WrongLength out work a a' out₁ out₂ work₁ work₂ p q
 open-once (byte ∷ key) cipher out work a a' out₁ out₂ work₁ work₂ p q = go (set_of byte) refl p q
   where
-    go : (n : Named) → set_of byte ≡ n → OpenOf n (byte ∷ key) cipher out work a out₁ work₁ → OpenOf n (byte ∷ key) cipher out work a' out₂ work₂
+    go : (n : Option Set) → set_of byte ≡ n → OpenOf n (byte ∷ key) cipher out work a out₁ work₁ → OpenOf n (byte ∷ key) cipher out work a' out₂ work₂
         → Same a a' out₁ out₂ work₁ work₂
-    go (Known s) e p q = open-known s (known byte s e).valid (known-width byte s e) (byte ∷ key) cipher out work a a' out₁ out₂ work₁ work₂ p q
-    go Unknown e p q = untouched-once UnknownSet out work a a' out₁ out₂ work₁ work₂ p q
+    go (Some s) e p q = open-known s (known byte s e).valid (known-width byte s e) (byte ∷ key) cipher out work a a' out₁ out₂ work₁ work₂ p q
+    go None e p q = untouched-once UnknownSet out work a a' out₁ out₂ work₁ work₂ p q
 
 -- THEOREM (unwrap, once).
 pub unwrap-once : UnwrapOnce
 unwrap-once [] cipher out work a a' out₁ out₂ work₁ work₂ p q = untouched-once WrongLength out work a a' out₁ out₂ work₁ work₂ p q
 unwrap-once (byte ∷ key) cipher out work a a' out₁ out₂ work₁ work₂ p q = go (set_of byte) refl p q
   where
-    go : (n : Named) → set_of byte ≡ n → UnwrapOf n (byte ∷ key) cipher out work a out₁ work₁ → UnwrapOf n (byte ∷ key) cipher out work a' out₂ work₂
+    go : (n : Option Set) → set_of byte ≡ n → UnwrapOf n (byte ∷ key) cipher out work a out₁ work₁ → UnwrapOf n (byte ∷ key) cipher out work a' out₂ work₂
         → Same a a' out₁ out₂ work₁ work₂
-    go (Known s) e p q = unwrap-known s (known byte s e).valid (known-width byte s e) (byte ∷ key) cipher out work a a' out₁ out₂ work₁ work₂ p q
-    go Unknown e p q = untouched-once UnknownSet out work a a' out₁ out₂ work₁ work₂ p q
+    go (Some s) e p q = unwrap-known s (known byte s e).valid (known-width byte s e) (byte ∷ key) cipher out work a a' out₁ out₂ work₁ work₂ p q
+    go None e p q = untouched-once UnknownSet out work a a' out₁ out₂ work₁ work₂ p q

@@ -13,7 +13,7 @@ use Rattle.lists.specs.Loops.{pick}
 use Rattle.gf.specs.Field.{width}
 use Rattle.bits.specs.Bits.{Small}
 use Rattle.sets.specs.declared.Set.{Set}
-use Rattle.sets.specs.declared.Named.TheVariants.{Known}
+use Rattle.std.specs.Prelude.{Some}
 use Rattle.sets.specs.Table.{set_of}
 use Rattle.sets.specs.Valid.{Valid}
 use Rattle.scheme.specs.declared.Answer.{Answer}
@@ -51,7 +51,7 @@ module _ (s : Set) (secret : List ℕ) where
   secret-back = take_at secret _ (length secret) refl
 
 -- ---- wrapping
-module _ (s : Set) (ok : Valid s) (named : set_of s.byte ≡ Known s) (public random secret cipher work : List ℕ) (b : ℕ)
+module _ (s : Set) (ok : Valid s) (named : set_of s.byte ≡ Some s) (public random secret cipher work : List ℕ) (b : ℕ)
     (small : Small 8 random) (bytes : Small 8 secret) where
   abbrev sized : Bool
   sized = leb 1 (length secret) && leb (length secret) s.k1
@@ -60,7 +60,7 @@ module _ (s : Set) (ok : Valid s) (named : set_of s.byte ≡ Known s) (public ra
   abbrev Gives : SealEnd → Type 0
   Gives r = r.answer ≡ Done b → (1 ≤ length secret) × (length secret ≤ s.k1) × Sealed s public r.cipher (secret_message s secret)
 
-  of-known : Gives (wrap_of (Known s) public random secret cipher work)
+  of-known : Gives (wrap_of (Some s) public random secret cipher work)
   of-known = go (seal_lengths s (length public) (length random) (length cipher) (length work)) sized refl
     where
       go : (t u : Bool) → leb 1 (length secret) && leb (length secret) s.k1 ≡ u
@@ -80,11 +80,11 @@ module _ (s : Set) (ok : Valid s) (named : set_of s.byte ≡ Known s) (public ra
       go : (k : List ℕ) → k ≡ public → Gives (wrap_ends k random secret cipher work)
       go [] q = absurd (omega (arith, ap length q))
       go (byte ∷ k) q =
-          let names : set_of byte ≡ Known s = ap (λ (l : List ℕ). set_of (get_or l 0 0)) q ∙ ap set_of byte-is ∙ named in
-          rw names (subst (λ (l : List ℕ). Gives (wrap_of (Known s) l random secret cipher work)) (sym q) of-known)
+          let names : set_of byte ≡ Some s = ap (λ (l : List ℕ). set_of (get_or l 0 0)) q ∙ ap set_of byte-is ∙ named in
+          rw names (subst (λ (l : List ℕ). Gives (wrap_of (Some s) l random secret cipher work)) (sym q) of-known)
 
 -- ---- unwrapping
-module _ (s : Set) (ok : Valid s) (e : width (field_of s) ≡ s.m) (named : set_of s.byte ≡ Known s) (public private : List ℕ) (G : GoodPair s public private) where
+module _ (s : Set) (ok : Valid s) (e : width (field_of s) ≡ s.m) (named : set_of s.byte ≡ Some s) (public private : List ℕ) (G : GoodPair s public private) where
   module _ (cipher msg out work out' work' : List ℕ) (P : Sealed s public cipher msg) (g : 1 ≤ length out) (h : length out ≤ s.k1) (area : length work ≡ s.work) where
     O : Opens s private cipher msg
     O = (promised s ok e public private G).exactly.opens cipher msg P
@@ -115,7 +115,7 @@ module _ (s : Set) (ok : Valid s) (e : width (field_of s) ≡ s.m) (named : set_
         sized-out (leb 1 (length out) && leb (length out) s.k1) answer (both (leb 1 (length out)) (leb (length out) s.k1) (true-le 1 (length out) g) (true-le (length out) s.k1 h)) o
     checked false answer t o = absurd (false≢true t)
 
-    of-set : (answer : Answer) → UnwrapOf (Known s) private cipher out work answer out' work' → (answer ≡ Done 0) × (out' ≡ take (length out) msg)
+    of-set : (answer : Answer) → UnwrapOf (Some s) private cipher out work answer out' work' → (answer ≡ Done 0) × (out' ≡ take (length out) msg)
     of-set answer o =
         checked (open_lengths s (length private) (length cipher) (length work)) answer
         (both _ _ (eq-eqb _ _ G.private_long) (both _ _ (eq-eqb _ _ (sealed-long s ok e named public cipher msg P).0) (eq-eqb _ _ area))) o
@@ -126,11 +126,11 @@ module _ (s : Set) (ok : Valid s) (e : width (field_of s) ≡ s.m) (named : set_
         go : (k : List ℕ) → k ≡ private → UnwrapEnds k cipher out work answer out' work' → (answer ≡ Done 0) × (out' ≡ take (length out) msg)
         go [] q o = absurd (omega (arith, ap length q, G.private_long, ok.private_is))
         go (byte ∷ k) q o =
-            let names : set_of byte ≡ Known s = ap (λ (l : List ℕ). set_of (get_or l 0 0)) q ∙ ap set_of G.private_byte ∙ named in
+            let names : set_of byte ≡ Some s = ap (λ (l : List ℕ). set_of (get_or l 0 0)) q ∙ ap set_of G.private_byte ∙ named in
             of-set answer (rw (q, names) at o)
 
 -- THEOREM (wrap, opens). What is wrapped with our public key unwraps with our private key, to the secret.
-pub wrap-opens : (s : Set) → Valid s → width (field_of s) ≡ s.m → set_of s.byte ≡ Known s → WrapOpens s
+pub wrap-opens : (s : Set) → Valid s → width (field_of s) ≡ s.m → set_of s.byte ≡ Some s → WrapOpens s
 wrap-opens s ok e named public private O random secret cipher work b small bytes a out work₁ out' work' answer room area o =
     let G : GoodPair s public private = setup-pairs s ok e public private O in
     let p = wrap-gives s ok named public random secret cipher work b small bytes G.public_byte (omega (arith, G.public_long, ok.public_is)) a in

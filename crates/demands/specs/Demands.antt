@@ -1,10 +1,9 @@
 -- Demand 3 (01, What a contract has to decide here; 02, ticket 10): what is promised of key pairs, over the definitions of the scheme.
 -- All is about byte strings: keys, messages, ciphertexts.
-use Rattle.std.specs.Prelude.{◌≡◌, true, false, List, ℕ, ◌+◌, ◌-◌, ◌*◌, ◌/◌, ◌<◌, eqb, ltb, length, get_or}
+use Rattle.std.specs.Prelude.{◌≡◌, true, false, List, ℕ, ◌+◌, ◌-◌, ◌*◌, ◌/◌, ◌<◌, eqb, ltb, length, get_or, Some}
 use Rattle.lists.specs.Loops.{pick, tab}
 use Rattle.bits.specs.Bits.{Small}
 use Rattle.sets.specs.declared.Set.{Set}
-use Rattle.sets.specs.declared.Named.TheVariants.{Known}
 use Rattle.sets.specs.Table.{set_of}
 use Rattle.code.specs.Words.{CodeWord}
 use Rattle.scheme.specs.Lists.{has}
@@ -214,7 +213,7 @@ WrappedArrives =
 -- and every string of the ciphertext's length is answered: by the message of the triple whose ciphertext it is, or by 10
 abbrev pub StringsAnswered : Type 0
 StringsAnswered =
-    (byte : ℕ) (s : Set) → set_of byte ≡ Known s
+    (byte : ℕ) (s : Set) → set_of byte ≡ Some s
     → (first public private work : List ℕ) (count : ℕ) → Small 8 first
     → let made = setup_ends byte first public private work in
     made.answer ≡ Done count

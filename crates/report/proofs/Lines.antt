@@ -6,8 +6,8 @@ use Prim.Native.Nat.{ℕ, ◌+◌, ◌-◌, ◌*◌, ◌≤◌, ◌<◌}
 use native.Mathlib.Omega.{arith}
 use borrow.Author.Tests.{le-leb, lt-leb, lt-ltb, le-ltb, eq-eqb, ne_eqb}
 use lib.ListN.{length, length-append}
-use Rattle.sets.specs.declared.Named.{Named}
-use Rattle.sets.specs.declared.Named.TheVariants.{Unknown}
+use Rattle.std.specs.Prelude.{Option, None}
+use Rattle.sets.specs.declared.Set.{Set}
 use Rattle.sets.specs.Table.{set_of}
 use Rattle.report.specs.declared.Line.{Line}
 use Rattle.report.specs.Line.{hex_digit, set_of_digits, set_of_line, Keeps}
@@ -38,15 +38,15 @@ module _ (c : ℕ) where
     above-letters g = let f : 97 ≤ c = omega arith in rw (le-leb 48 c low, lt-leb c 57 h, le-leb 97 c f, lt-leb c 102 g)
 
 module _ (a b : ℕ) where
-  pub first-none : 16 ≤ a → Unknown ≡ set_of_digits a b
+  pub first-none : 16 ≤ a → None ≡ set_of_digits a b
   unfolding set_of_digits
   first-none h = rw (le-ltb a 16 h)
 
-  pub second_none : a < 16 → 16 ≤ b → Unknown ≡ set_of_digits a b
+  pub second_none : a < 16 → 16 ≤ b → None ≡ set_of_digits a b
   unfolding set_of_digits
   second_none g h = rw (lt-ltb a 16 g, le-ltb b 16 h)
 
-  pub both-digits : a < 16 → b < 16 → (r : Named) → r ≡ set_of (16 * a + b) → r ≡ set_of_digits a b
+  pub both-digits : a < 16 → b < 16 → (r : Option Set) → r ≡ set_of (16 * a + b) → r ≡ set_of_digits a b
   unfolding set_of_digits
   both-digits g h r e = e ∙ sym (rw (lt-ltb a 16 g, lt-ltb b 16 h))
 
@@ -66,11 +66,11 @@ module _ (k : Line) (b : ℕ) where
   with-more z o (x ∷ y ∷ l) h = record { count = simp length-append (omega arith); first = h.first; second = h.second }
 
 module _ (k : Line) where
-  pub not-two : k.count ≢ 2 → (l : List ℕ) → Keeps k l → Unknown ≡ set_of_line l
+  pub not-two : k.count ≢ 2 → (l : List ℕ) → Keeps k l → None ≡ set_of_line l
   unfolding set_of_line
   not-two d l h = let e : length l ≢ 2 = λ q. d (h.count ∙ rw q) in rw (ne_eqb (length l) 2 e)
 
-  pub two : k.count ≡ 2 → (a b : ℕ) → a ≡ hex_digit k.first → b ≡ hex_digit k.second → (r : Named) → r ≡ set_of_digits a b → (l : List ℕ) → Keeps k l → r ≡ set_of_line l
+  pub two : k.count ≡ 2 → (a b : ℕ) → a ≡ hex_digit k.first → b ≡ hex_digit k.second → (r : Option Set) → r ≡ set_of_digits a b → (l : List ℕ) → Keeps k l → r ≡ set_of_line l
   unfolding set_of_line
   two e a b p q r f l h =
       let n : length l ≡ 2 = omega (arith, h.count) in

@@ -1,10 +1,10 @@
 // What the program `sizes` does: lines in, a line of numbers or a refusal out.
 #![tactic(auto)]
 
-ghost use Rattle.std.specs.Prelude.{◌≡◌, List, [], ◌∷◌, ◌++◌, ℕ, ◌+◌, ◌<◌, ◌≤◌, length};
+ghost use Rattle.std.specs.Prelude.{◌≡◌, option_map, List, [], ◌∷◌, ◌++◌, ℕ, ◌+◌, ◌<◌, ◌≤◌, length};
 ghost use Rattle.report.specs.Line.{hex_digit, set_of_digits, set_of_line, Keeps};
 
-use sets::{Named, Set};
+use sets::{ParameterSet, Set};
 use std::io::{Error, Read};
 
 // The number of standard output.
@@ -29,14 +29,14 @@ fn hex_digit(c: u8) -> u8
     16
 }
 
-fn set_of_digits(a: u8, b: u8) -> Named
-    ensures { result ≡ set_of_digits a b }
+fn set_of_digits(a: u8, b: u8) -> Option<ParameterSet>
+    ensures { option_map (λ p. p.set) result ≡ set_of_digits a b }
 {
     if a >= 16 {
-        return Named::Unknown;
+        return None;
     }
     if b >= 16 {
-        return Named::Unknown;
+        return None;
     }
     sets::find(16 * a + b)
 }
@@ -87,12 +87,12 @@ impl Line {
     }
 
     // The set that the line names.
-    pub fn names(self) -> Named
-        ensures { (l : List ℕ) → Keeps self l → result ≡ set_of_line l }
+    pub fn names(self) -> Option<ParameterSet>
+        ensures { (l : List ℕ) → Keeps self l → option_map (λ p. p.set) result ≡ set_of_line l }
     {
         let count = self.count;
         if count != 2 {
-            return Named::Unknown;
+            return None;
         }
         set_of_digits(hex_digit(self.first), hex_digit(self.second))
     }
@@ -160,13 +160,13 @@ fn write_first(s: &[u8], n: usize) {
 
 // What is written for a line.
 fn answer(line: Line) {
-    let Named::Known(s) = line.names() else {
+    let Some(parameters) = line.names() else {
         io::write_all(STDOUT, b"refused 1\n");
         return;
     };
     let mut space = [0u8; 160];
     let out: &mut [u8] = &mut space;
-    let n = describe(out, s);
+    let n = describe(out, parameters.set);
     write_first(out, n);
 }
 

@@ -1,9 +1,7 @@
 -- What each call promises, for all inputs: its answer, and what every lent buffer holds afterwards (01, Answer numbers, Lengths that must match).
-use Rattle.std.specs.Prelude.{◌≡◌, Bool, true, false, ◌&&◌, List, [], ◌∷◌, ℕ, ◌/◌, ◌%◌, eqb, leb, ltb, length, take, replicate}
+use Rattle.std.specs.Prelude.{◌≡◌, Bool, true, false, ◌&&◌, List, [], ◌∷◌, ℕ, ◌/◌, ◌%◌, eqb, leb, ltb, length, take, replicate, Option, Some, None}
 use Rattle.lists.specs.Loops.{pick}
 use Rattle.sets.specs.declared.Set.{Set}
-use Rattle.sets.specs.declared.Named.{Named}
-use Rattle.sets.specs.declared.Named.TheVariants.{Known, Unknown}
 use Rattle.sets.specs.Table.{set_of}
 use Rattle.scheme.specs.declared.Answer.{Answer}
 use Rattle.scheme.specs.declared.Answer.TheVariants.{Done, UnknownSet, WrongLength, Malformed, Singular as SingularW, ZeroValues, NotOpened, WrongSecret, FewMultipliers, FewElements, NoWindow, Dependent}
@@ -34,9 +32,9 @@ abbrev pub setup_lengths : Set → ℕ → ℕ → ℕ → ℕ → Bool
 setup_lengths s random public private work =
     eqb random s.random && (eqb public s.public && (eqb private s.private && eqb work s.work))
 
-abbrev pub setup_of : Named → List ℕ → List ℕ → List ℕ → List ℕ → SetupEnd
-setup_of Unknown random public private work = record { answer = UnknownSet; public = public; private = private; work = work }
-setup_of (Known s) random public private work =
+abbrev pub setup_of : Option Set → List ℕ → List ℕ → List ℕ → List ℕ → SetupEnd
+setup_of None random public private work = record { answer = UnknownSet; public = public; private = private; work = work }
+setup_of (Some s) random public private work =
     pick (setup_lengths s (length random) (length public) (length private) (length work)) (after_setup (setup s random) public private work)
     (record { answer = WrongLength; public = public; private = private; work = work })
 
@@ -64,9 +62,9 @@ after_seal s key random msg cipher work =
     (record { answer = ZeroValues; cipher = zeroed cipher; work = zeroed work })
 
 -- "Order: an empty key (2), set byte (1), other lengths (2)"
-abbrev pub seal_of : Named → List ℕ → List ℕ → List ℕ → List ℕ → List ℕ → SealEnd
-seal_of Unknown key random msg cipher work = record { answer = UnknownSet; cipher = cipher; work = work }
-seal_of (Known s) key random msg cipher work =
+abbrev pub seal_of : Option Set → List ℕ → List ℕ → List ℕ → List ℕ → List ℕ → SealEnd
+seal_of None key random msg cipher work = record { answer = UnknownSet; cipher = cipher; work = work }
+seal_of (Some s) key random msg cipher work =
     pick (seal_lengths s (length key) (length random) (length cipher) (length work) && eqb (length msg) s.k1) (after_seal s key random msg cipher work)
     (record { answer = WrongLength; cipher = cipher; work = work })
 
@@ -75,9 +73,9 @@ seal_ends [] random msg cipher work = record { answer = WrongLength; cipher = ci
 seal_ends (byte ∷ key) random msg cipher work = seal_of (set_of byte) (byte ∷ key) random msg cipher work
 
 -- then "secret length (11)"
-abbrev pub wrap_of : Named → List ℕ → List ℕ → List ℕ → List ℕ → List ℕ → SealEnd
-wrap_of Unknown key random secret cipher work = record { answer = UnknownSet; cipher = cipher; work = work }
-wrap_of (Known s) key random secret cipher work =
+abbrev pub wrap_of : Option Set → List ℕ → List ℕ → List ℕ → List ℕ → List ℕ → SealEnd
+wrap_of None key random secret cipher work = record { answer = UnknownSet; cipher = cipher; work = work }
+wrap_of (Some s) key random secret cipher work =
     pick (seal_lengths s (length key) (length random) (length cipher) (length work))
     (pick (leb 1 (length secret) && leb (length secret) s.k1) (after_seal s key random (secret_message s secret) cipher work)
     (record { answer = WrongSecret; cipher = cipher; work = work }))
@@ -126,9 +124,9 @@ abbrev pub OpenChecked : Bool → Set → List ℕ → List ℕ → List ℕ →
 OpenChecked true s key cipher out work answer out' work' = Opening s key cipher (Opens s key cipher) out work answer out' work'
 OpenChecked false s key cipher out work answer out' work' = Untouched WrongLength out work answer out' work'
 
-abbrev pub OpenOf : Named → List ℕ → List ℕ → List ℕ → List ℕ → Answer → List ℕ → List ℕ → Type 0
-OpenOf Unknown key cipher out work answer out' work' = Untouched UnknownSet out work answer out' work'
-OpenOf (Known s) key cipher out work answer out' work' =
+abbrev pub OpenOf : Option Set → List ℕ → List ℕ → List ℕ → List ℕ → Answer → List ℕ → List ℕ → Type 0
+OpenOf None key cipher out work answer out' work' = Untouched UnknownSet out work answer out' work'
+OpenOf (Some s) key cipher out work answer out' work' =
     OpenChecked (open_lengths s (length key) (length cipher) (length work) && eqb (length out) s.k1) s key cipher out work answer out' work'
 
 -- the key, the ciphertext, the message and the work area as they are lent; the answer; message and work area afterwards
@@ -150,9 +148,9 @@ UnwrapChecked true s key cipher out work answer out' work' =
     UnwrapSized (leb 1 (length out) && leb (length out) s.k1) s key cipher out work answer out' work'
 UnwrapChecked false s key cipher out work answer out' work' = Untouched WrongLength out work answer out' work'
 
-abbrev pub UnwrapOf : Named → List ℕ → List ℕ → List ℕ → List ℕ → Answer → List ℕ → List ℕ → Type 0
-UnwrapOf Unknown key cipher out work answer out' work' = Untouched UnknownSet out work answer out' work'
-UnwrapOf (Known s) key cipher out work answer out' work' =
+abbrev pub UnwrapOf : Option Set → List ℕ → List ℕ → List ℕ → List ℕ → Answer → List ℕ → List ℕ → Type 0
+UnwrapOf None key cipher out work answer out' work' = Untouched UnknownSet out work answer out' work'
+UnwrapOf (Some s) key cipher out work answer out' work' =
     UnwrapChecked (open_lengths s (length key) (length cipher) (length work)) s key cipher out work answer out' work'
 
 abbrev pub UnwrapEnds : List ℕ → List ℕ → List ℕ → List ℕ → Answer → List ℕ → List ℕ → Type 0

@@ -2,6 +2,7 @@
 use mathlib.Core.Path.{◌≡◌, refl, sym}
 use mathlib.Core.Logic.{◌≢◌}
 use mathlib.Core.Bool.{Bool, true, false, ◌&&◌}
+use Rattle.std.specs.Prelude.{Some, None}
 use mathlib.Core.List.{List, [], ◌∷◌}
 use Prim.Native.Nat.{ℕ, ◌+◌, ◌-◌, ◌*◌, ◌^◌}
 use lib.Dec.{T, eqb, leb, ltb, eqb→eq, leb→le, ltb→lt}
@@ -10,21 +11,20 @@ use native.Mathlib.Decide.{ℕ_discrete}
 use borrow.Author.Tests.{eq-eqb, ne_eqb}
 use Rattle.bits.specs.Bits.{bytes_for}
 use Rattle.sets.specs.declared.Set.{Set}
-use Rattle.sets.specs.declared.Named.TheVariants.{Known, Unknown}
 use Rattle.sets.specs.Table.{set6, set1, set_of}
 use Rattle.sets.specs.Valid.{Valid, setup_elements, key_elements}
 
 -- ---- the table by cases
 module _ (byte : ℕ) where
-  pub of-0x16 : (s : Set) → byte ≡ 0x16 → s ≡ set6 → Known s ≡ set_of byte
+  pub of-0x16 : (s : Set) → byte ≡ 0x16 → s ≡ set6 → Some s ≡ set_of byte
   unfolding set_of
   of-0x16 s e q = rw (eq-eqb byte 0x16 e, q)
 
-  pub of-0x11 : (s : Set) → byte ≢ 0x16 → byte ≡ 0x11 → s ≡ set1 → Known s ≡ set_of byte
+  pub of-0x11 : (s : Set) → byte ≢ 0x16 → byte ≡ 0x11 → s ≡ set1 → Some s ≡ set_of byte
   unfolding set_of
   of-0x11 s d e q = rw (ne_eqb byte 0x16 d, eq-eqb byte 0x11 e, q)
 
-  pub of_none : byte ≢ 0x16 → byte ≢ 0x11 → Unknown ≡ set_of byte
+  pub of_none : byte ≢ 0x16 → byte ≢ 0x11 → None ≡ set_of byte
   unfolding set_of
   of_none d e = rw (ne_eqb byte 0x16 d, ne_eqb byte 0x11 e)
 
@@ -109,7 +109,7 @@ pub record Fit (byte : ℕ) (s : Set) : Type 0 where
   pub valid : Valid s
   pub names : s.byte ≡ byte
 
-pub known : (byte : ℕ) (s : Set) → set_of byte ≡ Known s → Fit byte s
+pub known : (byte : ℕ) (s : Set) → set_of byte ≡ Some s → Fit byte s
 known byte s e = go (ℕ_discrete byte 0x16) (ℕ_discrete byte 0x11)
   where
     go : Dec (byte ≡ 0x16) → Dec (byte ≡ 0x11) → Fit byte s

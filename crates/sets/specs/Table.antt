@@ -1,9 +1,7 @@
 -- 01, What the wrapping covers: the table of sets, with the lengths of "Lengths that must match" in the last three columns.
-use Rattle.std.specs.Prelude.{ℕ, eqb}
+use Rattle.std.specs.Prelude.{ℕ, eqb, Option, Some, None}
 use Rattle.lists.specs.Loops.{pick}
 use Rattle.sets.specs.declared.Set.{Set}
-use Rattle.sets.specs.declared.Named.{Named}
-use Rattle.sets.specs.declared.Named.TheVariants.{Known, Unknown}
 
 abbrev pub row : ℕ → ℕ → ℕ → ℕ → ℕ → ℕ → ℕ → ℕ → ℕ → ℕ → ℕ → ℕ → ℕ → ℕ → ℕ → ℕ → ℕ → Set
 row byte number n k t w m k1 k2 k3 u0 public private cipher random block work =
@@ -35,5 +33,5 @@ abbrev pub set1 : Set
 set1 = row 0x11 1 532 376 78 96 10 504 32 32 123 118441 121666 785 48617 188 1336384
 
 -- the set that a set byte names
-unfoldable pub set_of : ℕ → Named
-set_of byte = pick (eqb byte 0x16) (Known set6) (pick (eqb byte 0x11) (Known set1) Unknown)
+unfoldable pub set_of : ℕ → Option Set
+set_of byte = pick (eqb byte 0x16) (Some set6) (pick (eqb byte 0x11) (Some set1) None)

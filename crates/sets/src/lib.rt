@@ -1,7 +1,7 @@
 // The sets of parameters: their numbers by value, and the set that a set byte names.
 #![tactic(auto)]
 
-ghost use Rattle.std.specs.Prelude.{◌≡◌};
+ghost use Rattle.std.specs.Prelude.{◌≡◌, option_map};
 ghost use Rattle.sets.specs.Table.{set_of};
 ghost use Rattle.sets.specs.Valid.{Valid};
 
@@ -81,20 +81,13 @@ pub const SET1: Set = Set {
 };
 
 /// The set that a set byte names, if there is one.
-#[derive(Clone, Copy)]
-pub enum Named {
-    Known(Set),
-    Unknown,
-}
-
-/// The set that a set byte names, if there is one.
 #[tactic(auto, unfolding(crate::specs::Table::set_of))]
-pub fn find(byte: u8) -> Named
-    ensures { result ≡ set_of byte }
+pub fn find(byte: u8) -> Option<ParameterSet>
+    ensures named { option_map (λ p. p.set) result ≡ set_of byte }
 {
     match byte {
-        0x16 => Named::Known(SET6),
-        0x11 => Named::Known(SET1),
-        _ => Named::Unknown,
+        0x16 => Some(ParameterSet { set: SET6 }),
+        0x11 => Some(ParameterSet { set: SET1 }),
+        _ => None,
     }
 }
