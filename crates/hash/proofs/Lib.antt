@@ -2,7 +2,9 @@
 pub mod Laws
 pub mod Answers
 pub mod Bitwise
+pub mod Rotations
 pub mod Schedule
+pub mod Bytes
 pub mod Chain
 pub mod Out
 pub mod Update

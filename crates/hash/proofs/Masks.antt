@@ -1,6 +1,9 @@
 -- The mask of a seed: where each digest stands in it, and the loop that lays it over a slice, a digest a turn.
-use Rattle.std.proofs.Common.{◌≡◌, ℕ, zero, suc, ◌+◌, ◌-◌, ◌*◌, ◌/◌, ◌<◌, ◌≤◌, List, [], ◌∷◌, ◌++◌, length, get_or, take, drop, set, replicate, sym, refl, ap, ◌∙◌, ap₂, append_assoc, append-nil, add-zero, add-suc, arith, length-set, get_or-drop, get_or-take, drop-drop, take_at, get_or-append-add, drop_at}
+use Rattle.std.proofs.Common.{◌≡◌, ℕ, zero, suc, ◌+◌, ◌-◌, ◌*◌, ◌/◌, ◌<◌, ◌≤◌, List, [], ◌∷◌, ◌++◌, length, length-append, get_or, map, min, take, drop, take-append-drop, set, replicate, sym, refl, ap, ◌∙◌, ap₂, append_assoc, append-nil, add-zero, add-suc, arith, length-set, get_or-drop, get_or-take, drop-drop, take_at, get_or-append-add, drop_at}
 use native.Mathlib.Decide.{dec_lt}
+use Rattle.std.specs.List.{concat}
+use Rattle.std.proofs.lemmas.List.{map-append, take_more}
+use Rattle.std.proofs.lemmas.List.Folds.{concat-append}
 use lib.Bits.{bit_xor, xor_zero_l}
 use lib.ListN.{length-replicate, get_or-replicate, get_or-append}
 use Rattle.lists.specs.Loops.{tab}
@@ -44,8 +47,8 @@ pub record Over (s₀ mask : List ℕ) (i : ℕ) (s : List ℕ) : Type 0 where
 pub over_none : (s₀ mask : List ℕ) → Over s₀ mask 0 s₀
 over_none s₀ mask = record { long = refl; is = tab-none (over s₀ mask) s₀ }
 
-pub over-more : {s₀ mask s : List ℕ} {i : ℕ} → Over s₀ mask i s → i < length s → Over s₀ mask (i + 1) (set s i (bit_xor (get_or s i 0) (get_or mask i 0)))
-over-more {s₀} {mask} {s} {i} o h =
+pub over_more : {s₀ mask s : List ℕ} {i : ℕ} → Over s₀ mask i s → i < length s → Over s₀ mask (i + 1) (set s i (bit_xor (get_or s i 0) (get_or mask i 0)))
+over_more {s₀} {mask} {s} {i} o h =
     let f = over s₀ mask in
     let n : i ≡ length (tab i f) + 0 = omega (arith, length-tab i f) in
     let g : get_or s i 0 ≡ get_or s₀ i 0 =
@@ -89,28 +92,25 @@ over-part {s₀} {mask} {s} {p} {at} k d o fits pp same =
           ∙ ap (λ (x : List ℕ). x ++ drop (at + k) s₀) (tab-add f at k);
     }
 
--- the k bytes of digest n that are wanted, where `at` is 64 bytes a digest and no more than there are
-module _ (at n k len : ℕ) (h : at < len) (place : at + (n * 64 - len) ≡ n * 64) (least : k ≡ (len - at) - (len - at - 64)) where
-  place_is : at ≡ n * 64
-  place_is = omega arith
+-- the bytes of digest n that are wanted, which end at e
+pub over_digest : {s₀ s p d : List ℕ} {e : ℕ} (seed : List ℕ) (n : ℕ) → 64 * n < length s₀ → e ≡ min (length s) (64 * n + 64)
+    → d ≡ sha512 (seed ++ bytes4 n) → p ≡ xored (part (64 * n) (e - 64 * n) s) d
+    → Over s₀ (mgf seed (length s₀)) (min (64 * n) (length s₀)) s
+    → Over s₀ (mgf seed (length s₀)) (min (64 * (n + 1)) (length s₀)) (put (64 * n) (e - 64 * n) p s)
+over_digest {s₀} {s} {p} {d} {e} seed n h end dp pp o =
+    let len = length s₀ in
+    let at : min (64 * n) len ≡ 64 * n = omega arith in
+    let long : length s ≡ len = o.long in
+    let next : 64 * n + (e - 64 * n) ≡ min (64 * (n + 1)) len = omega arith in
+    let byte : (j : ℕ) → j < e - 64 * n → get_or d j 0 ≡ get_or (mgf seed len) (64 * n + j) 0 =
+    λ j g.
+    let place : n * 64 + j ≡ 64 * n + j = omega arith in
+    ap (λ (x : List ℕ). get_or x j 0) dp ∙ sym (mgf-at seed len n j (omega arith) (omega arith))
+    ∙ ap (λ (x : ℕ). get_or (mgf seed len) x 0) place in
+    rw next at (over-part (e - 64 * n) d (rw at at o) (omega arith) pp byte)
 
-  pub less-left : len - (at + k) < len - at
-  less-left = let some : 0 < k = omega arith in omega arith
-
-  pub fits : (k ≤ 64) × (at + k ≤ len)
-  fits = (omega arith, omega arith)
-
-  pub place-next : at + k + ((n + 1) * 64 - len) ≡ (n + 1) * 64
-  place-next = omega (arith, place_is)
-
-  pub over-digest : {s₀ s p d : List ℕ} (seed : List ℕ) → length s₀ ≡ len → d ≡ sha512 (seed ++ bytes4 n) → p ≡ xored (part at k s) d
-      → Over s₀ (mgf seed len) at s → Over s₀ (mgf seed len) (at + k) (put at k p s)
-  over-digest {s₀} {s} {p} {d} seed l dp pp o =
-      let byte : (j : ℕ) → j < k → get_or d j 0 ≡ get_or (mgf seed len) (at + j) 0 =
-      λ j g.
-      ap (λ (x : List ℕ). get_or x j 0) dp ∙ sym (mgf-at seed len n j (omega (arith, place_is, fits)) (omega (arith, fits)))
-      ∙ ap (λ (x : ℕ). get_or (mgf seed len) (x + j) 0) (sym place_is) in
-      over-part k d o (omega (arith, fits)) pp byte
+pub over_digests : {s₀ s mask : List ℕ} (n : ℕ) → length s₀ ≤ 64 * n → Over s₀ mask (min (64 * n) (length s₀)) s → s ≡ xored s₀ mask
+over_digests {s₀} {s} {mask} n h o = over_done o (omega arith) (omega (arith, o.long))
 
 -- ---- a mask laid over zeros is the mask
 pub over_zeros : (mask : List ℕ) (n : ℕ) → length mask ≡ n → xored (replicate n 0) mask ≡ mask
@@ -126,3 +126,24 @@ pub filled : {s₁ s₂ : List ℕ} (n : ℕ) (seed : List ℕ) → s₁ ≡ rep
 filled {s₁} {s₂} n seed wiped e =
     let l : length s₁ ≡ n = ap length wiped ∙ length-replicate n 0 in
     e ∙ ap₂ (λ (x : List ℕ) (k : ℕ). xored x (mgf seed k)) wiped l ∙ over_zeros (mgf seed n) n (length-mgf seed n)
+
+-- ---- a seed in parts
+module _ {A : Type 0} (f : A → List ℕ) (parts : List A) where
+  pub joined : (i : ℕ) (d : A) → i < length parts → concat (map f (take (i + 1) parts)) ≡ concat (map f (take i parts)) ++ f (get_or parts i d)
+  joined i d h =
+      ap (λ (l : List A). concat (map f l)) (take_more parts i d h)
+      ∙ ap concat (map-append f (take i parts) (get_or parts i d ∷ []))
+      ∙ concat-append (map f (take i parts)) (f (get_or parts i d) ∷ [])
+      ∙ ap (λ (l : List ℕ). concat (map f (take i parts)) ++ l) (append-nil (f (get_or parts i d)))
+
+  joined_le : (i : ℕ) → length (concat (map f (take i parts))) ≤ length (concat (map f parts))
+  joined_le i =
+      let whole : concat (map f parts) ≡ concat (map f (take i parts)) ++ concat (map f (drop i parts)) =
+      ap (λ (l : List A). concat (map f l)) (sym (take-append-drop i parts)) ∙ ap concat (map-append f (take i parts) (drop i parts))
+      ∙ concat-append (map f (take i parts)) (map f (drop i parts)) in
+      omega (arith, ap length whole, length-append (concat (map f (take i parts))) (concat (map f (drop i parts))))
+
+  pub joined_fits : (i : ℕ) (d : A) → i < length parts
+      → length (concat (map f (take i parts))) + length (f (get_or parts i d)) ≤ length (concat (map f parts))
+  joined_fits i d h =
+      omega (arith, joined_le (i + 1), ap length (joined i d h), length-append (concat (map f (take i parts))) (f (get_or parts i d)))

@@ -1,6 +1,10 @@
 -- What a part does to what is held of a message: it stays within the block that is begun, or completes it.
-use Rattle.std.proofs.Common.{◌≡◌, ℕ, suc, ◌+◌, ◌-◌, ◌*◌, ◌/◌, ◌%◌, ◌<◌, ◌≤◌, List, ◌++◌, length, take, drop, sym, ap, ◌∙◌, ap₂, append-nil, arith, length-append, length-drop, drop_of_length-le, length-take-le, drop-drop}
-use lib.Seq.{paste, drop-append-le, take-paste, length-paste, take-length, take-append-add, drop-append-add}
+use Rattle.std.proofs.Common.{◌≡◌, ℕ, suc, ◌+◌, ◌-◌, ◌*◌, ◌/◌, ◌%◌, ◌<◌, ◌≤◌, List, ◌++◌, length, take, drop, refl, sym, ap, ◌∙◌, ap₂, append-nil, arith, length-append, length-drop, length-take-le, drop-drop}
+use lib.Seq.{drop-append-le, take-append-add, drop-append-add}
+use Rattle.std.proofs.lemmas.List.{drop_all}
+use Rattle.std.proofs.lemmas.Slice.{take-put_mid}
+use Rattle.lists.specs.Parts.{put}
+use Rattle.lists.proofs.Parts.{put-length}
 use Rattle.hash.specs.declared.word.Words.{Words}
 use Rattle.hash.specs.Constants.{initial}
 use Rattle.hash.specs.Sha.{chain, compress}
@@ -11,7 +15,7 @@ module _ (st : Words) (d : List ℕ) (len : ℕ) (s : List ℕ) where
   abbrev Before : List ℕ → Type 0
   Before m = Holds (record { state = st; rest = d; len = len }) m
 
-  pub few : {e : List ℕ} → length s < 128 - len % 128 → e ≡ paste d (len % 128) s (length s)
+  pub few : {e : List ℕ} → length s < 128 - len % 128 → e ≡ put (len % 128) (length s) s d
       → (m : List ℕ) → Before m → Holds (record { state = st; rest = e; len = len + length s }) (m ++ s)
   few {e} h p m k =
       let l : len ≡ length m = k.len_is in
@@ -23,20 +27,20 @@ module _ (st : Words) (d : List ℕ) (len : ℕ) (s : List ℕ) where
       record {
         state_is = k.state_is ∙ sym (chain-append initial m s (length m / 128) f) ∙ ap (chain initial (m ++ s)) (sym q);
         rest_is =
-            ap₂ take r p ∙ take-paste d (len % 128) s (length s) (omega (arith, k.rest_long)) (omega arith)
-            ∙ ap₂ ◌++◌ (ap (λ (x : ℕ). take x d) (sym n) ∙ k.rest_is) (take-length s)
+            ap₂ take r p ∙ take-put_mid (len % 128) (length s) d s (len % 128 + length s) refl (omega (arith, k.rest_long))
+            ∙ ap (λ (x : List ℕ). x ++ s) (ap (λ (x : ℕ). take x d) (sym n) ∙ k.rest_is)
             ∙ sym (ap (λ (x : ℕ). drop (128 * x) (m ++ s)) q ∙ drop-append-le (128 * (length m / 128)) m s f);
-        rest_long = ap length p ∙ length-paste d (len % 128) s (length s) (omega (arith, k.rest_long)) (omega arith) ∙ k.rest_long;
+        rest_long = ap length p ∙ put-length (len % 128) (length s) s d (omega (arith, k.rest_long)) refl ∙ k.rest_long;
         len_is = omega arith;
       }
 
   pub many : {f t u e : List ℕ} {a b : Words} → 128 - len % 128 ≤ length s
-      → f ≡ paste d (len % 128) (take (128 - len % 128) s) (length (take (128 - len % 128) s))
+      → f ≡ put (len % 128) (128 - len % 128) (take (128 - len % 128) s) d
       → a ≡ compress st f
       → t ≡ drop (128 - len % 128) s
       → b ≡ chain a t (length t / 128)
       → u ≡ drop (length t / 128 * 128) t
-      → e ≡ paste f 0 u (length u)
+      → e ≡ put 0 (length u) u f
       → (m : List ℕ) → Before m → Holds (record { state = b; rest = e; len = len + length s }) (m ++ s)
   many {f} {t} {u} {e} {a} {b} h fp ap' tp bp up ep m hm =
       let k : ℕ = 128 - len % 128 in
@@ -55,7 +59,7 @@ module _ (st : Words) (d : List ℕ) (len : ℕ) (s : List ℕ) where
       -- the block that is completed
       let front : take (len % 128) d ≡ x = ap (λ (y : ℕ). take y d) (sym n) ∙ hm.rest_is in
       let fx : f ≡ x ++ take k s =
-      fp ∙ ap₂ ◌++◌ (ap₂ ◌++◌ front (take-length (take k s))) (drop_of_length-le d {i = len % 128 + length (take k s)} (omega arith)) ∙ append-nil (x ++ take k s) in
+      fp ∙ ap₂ ◌++◌ front (ap (λ (y : List ℕ). take k s ++ y) (drop_all k (drop (len % 128) d) (omega (arith, length-drop (len % 128) d))) ∙ append-nil (take k s)) in
       let dp : drop (128 * q) p ≡ x ++ s = drop-append-le (128 * q) m s mq in
       let block : take 128 (drop (128 * q) p) ≡ f = ap₂ take full dp ∙ take-append-add x s k ∙ sym fx in
       let state : st ≡ chain initial p q = hm.state_is ∙ sym (chain-append initial m s q mq) in
@@ -78,7 +82,7 @@ module _ (st : Words) (d : List ℕ) (len : ℕ) (s : List ℕ) where
       let lf : length f ≡ 128 = ap length fx ∙ length-append x (take k s) ∙ omega arith in
       record {
         state_is = bc;
-        rest_is = ap₂ take r ep ∙ take-paste f 0 u (length u) (omega arith) (omega arith) ∙ take-length u ∙ ud;
-        rest_long = ap length ep ∙ length-paste f 0 u (length u) (omega arith) (omega arith) ∙ lf;
+        rest_is = ap₂ take r ep ∙ take-put_mid 0 (length u) f u (0 + length u) refl (omega arith) ∙ ud;
+        rest_long = ap length ep ∙ put-length 0 (length u) u f (omega arith) refl ∙ lf;
         len_is = omega arith;
       }

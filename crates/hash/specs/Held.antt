@@ -1,8 +1,9 @@
--- Not of the standard: what inner contracts say of a message that comes in parts, of a block whose rounds are under way, and
--- of a digest that is half written. Callers outside the crate need `Holds` alone.
-use Rattle.std.specs.Prelude.{◌≡◌, ℕ, ◌+◌, ◌*◌, ◌/◌, ◌%◌, ◌^◌, List, length, take, drop, slice_set}
+-- Not of the standard: what inner contracts say of a message that comes in parts, and of a block whose rounds are under way.
+-- Callers outside the crate need `Holds` alone.
+use Rattle.std.specs.Prelude.{◌≡◌, ℕ, ◌+◌, ◌*◌, ◌/◌, ◌%◌, ◌<◌, ◌≤◌, List, length, take, drop, slice_index}
 use Rattle.hash.specs.declared.word.Words.{Words}
 use Rattle.hash.specs.declared.hasher.Hasher.{Hasher}
+use Rattle.hash.specs.Word.{add, ssig0, ssig1}
 use Rattle.hash.specs.Constants.{initial}
 use Rattle.hash.specs.Sha.{schedule, rounds, chain}
 
@@ -13,13 +14,16 @@ pub record Holds (h : Hasher) (m : List ℕ) : Type 0 where
   pub rest_long : length h.rest ≡ 128
   pub len_is : h.len ≡ length m
 
--- t rounds of the block b from the hash value s are done, with the variables v, and w holds the words below t + 16
-pub record At (s : Words) (b : List ℕ) (t : ℕ) (w : List ℕ) (v : Words) : Type 0 where
-  pub long : length w ≡ 80
-  pub words : take (t + 16) w ≡ schedule b (t + 16)
-  pub state : v ≡ rounds s (schedule b 80) t
+-- the ring w holds the words n - 16 .. n - 1 of the block b, word j in place j modulo 16
+pub record Ring (b : List ℕ) (n : ℕ) (w : List ℕ) : Type 0 where
+  pub long : length w ≡ 16
+  pub words : (j : ℕ) → j < n → n ≤ j + 16 → slice_index w (j % 16) ≡ slice_index (schedule b 80) j
 
--- the eight bytes of x from place i on
-unfoldable pub store8 : List ℕ → ℕ → ℕ → List ℕ
-store8 l i x =
-    slice_set (slice_set (slice_set (slice_set (slice_set (slice_set (slice_set (slice_set l i (x / 2 ^ 56 % 256)) (i + 1) (x / 2 ^ 48 % 256)) (i + 2) (x / 2 ^ 40 % 256)) (i + 3) (x / 2 ^ 32 % 256)) (i + 4) (x / 2 ^ 24 % 256)) (i + 5) (x / 2 ^ 16 % 256)) (i + 6) (x / 2 ^ 8 % 256)) (i + 7) (x % 256)
+-- the word that takes place p of a ring, from those that stand 2, 7, 15 and 16 places before it
+abbrev pub next_word : List ℕ → ℕ → ℕ
+next_word w p =
+    add (add (add (ssig1 (slice_index w ((p + 14) % 16))) (slice_index w ((p + 9) % 16))) (ssig0 (slice_index w ((p + 1) % 16)))) (slice_index w p)
+
+-- after t rounds of the block b from the hash value s the variables are v
+pub record At (s : Words) (b : List ℕ) (t : ℕ) (v : Words) : Type 0 where
+  pub state : v ≡ rounds s (schedule b 80) t

@@ -1,166 +1,147 @@
 // The message schedule, the rounds and the compression of a block: FIPS 180-4, section 6.4.2.
-ghost use Rattle.std.specs.Prelude.{◌≡◌, ℕ, ◌+◌, ◌*◌, ◌/◌, ◌^◌, ◌<◌, ◌≤◌, List, length, take, slice_index, slice_set};
+// The schedule is a ring of the last sixteen words, and sixteen rounds are a turn: a compiler then keeps the words in place.
+ghost use Rattle.std.specs.Prelude.{◌≡◌, ℕ, ◌+◌, ◌*◌, ◌/◌, ◌<◌, ◌≤◌, List, length, slice_index, slice_set};
 ghost use Rattle.hash.specs.Constants.{k_table};
-ghost use Rattle.hash.specs.Sha.{word, extend, schedule, round, plus, compress, chain};
-ghost use Rattle.hash.specs.Held.{At};
+ghost use Rattle.hash.specs.Sha.{word, round, plus, compress, chain};
+ghost use Rattle.hash.specs.Held.{At, Ring, next_word};
 
+use crate::constants::table;
 use crate::word::{Words, bsig0, bsig1, ch, maj, ssig0, ssig1};
-use std::num::wrapping_add_u64;
-
-// A byte of the block, as a word.
-fn byte(b: &[u8], i: usize) -> u64
-    requires { i < length b.now }
-    ensures { (result ≡ slice_index b.now i) × (result < 256) }
-{
-    b[i] as u64
-}
-
-// One byte more at the low end.
-fn join(x: u64, y: u64) -> u64
-    requires { (x < 2 ^ 56) × (y < 256) }
-    ensures { result ≡ x * 256 + y }
-{
-    (x << 8) | y
-}
 
 // The word whose eight bytes stand from `at` on.
+#[inline(always)]
+#[tactic(auto, using(crate::proofs::Bytes::word_of))]
 fn load(b: &[u8], at: usize) -> u64
     requires { at + 8 ≤ length b.now }
     ensures { result ≡ word b.now at }
 {
-    let x = join(byte(b, at), byte(b, at + 1));
-    let x = join(x, byte(b, at + 2));
-    let x = join(x, byte(b, at + 3));
-    let x = join(x, byte(b, at + 4));
-    let x = join(x, byte(b, at + 5));
-    let x = join(x, byte(b, at + 6));
-    join(x, byte(b, at + 7))
+    u64::from_be_bytes([
+        b[at],
+        b[at + 1],
+        b[at + 2],
+        b[at + 3],
+        b[at + 4],
+        b[at + 5],
+        b[at + 6],
+        b[at + 7],
+    ])
 }
 
-// Stores W t, a word of the block.
-fn load_at(w: &mut [u64; 80], b: &[u8], t: usize)
-    requires { (t < 16) × (128 ≤ length b.now) }
-    ensures { w.new ≡ slice_set w.old t (word b.now (t * 8)) }
+// The word of the round that is p rounds into a turn, in the place of the word sixteen rounds before it.
+#[inline(always)]
+#[tactic(auto, unfolding(crate::specs::Word::add))]
+fn next_word(w: &mut [u64; 16], p: usize) -> u64
+    requires { p < 16 }
+    ensures value { result ≡ next_word w.old p }
+    ensures ring { w.new ≡ slice_set w.old p result }
 {
-    w[t] = load(b, t * 8);
-}
-
-// W 0 .. W 15 in the first words, zeros in the rest.
-fn begun(b: &[u8]) -> [u64; 80]
-    requires { 128 ≤ length b.now }
-    ensures { (length result ≡ 80) × (take 16 result ≡ schedule b.now 16) }
-{
-    let mut w = [0u64; 80];
-    let mut t: usize = 0;
-    while t < 16 {
-        load_at(&mut w, b, t);
-        load_at(&mut w, b, t + 1);
-        load_at(&mut w, b, t + 2);
-        load_at(&mut w, b, t + 3);
-        t += 4;
-    }
-    w
-}
-
-// Stores W t.
-fn extend_at(w: &mut [u64; 80], t: usize)
-    requires { (16 ≤ t) × (t < 80) }
-    ensures { w.new ≡ slice_set w.old t (extend w.old t) }
-{
-    let recent = wrapping_add_u64(ssig1(w[t - 2]), w[t - 7]);
-    let early = wrapping_add_u64(recent, ssig0(w[t - 15]));
-    w[t] = wrapping_add_u64(early, w[t - 16]);
+    let recent = ssig1(w[(p + 14) % 16]).wrapping_add(w[(p + 9) % 16]);
+    let early = recent.wrapping_add(ssig0(w[(p + 1) % 16]));
+    let word = early.wrapping_add(w[p]);
+    w[p] = word;
+    word
 }
 
 // Working variables after a round.
+#[inline(always)]
+#[tactic(auto, unfolding(crate::specs::Sha::round, crate::specs::Sha::t1, crate::specs::Sha::t2, crate::specs::Word::add))]
 fn round(s: Words, k: u64, w: u64) -> Words
     ensures { result ≡ round s k w }
 {
-    let p = wrapping_add_u64(s.h, bsig1(s.e));
-    let q = wrapping_add_u64(p, ch(s.e, s.f, s.g));
-    let t1 = wrapping_add_u64(wrapping_add_u64(q, k), w);
-    let t2 = wrapping_add_u64(bsig0(s.a), maj(s.a, s.b, s.c));
+    let t1 = s
+        .h
+        .wrapping_add(bsig1(s.e))
+        .wrapping_add(ch(s.e, s.f, s.g))
+        .wrapping_add(k)
+        .wrapping_add(w);
+    let t2 = bsig0(s.a).wrapping_add(maj(s.a, s.b, s.c));
     Words {
-        a: wrapping_add_u64(t1, t2),
+        a: t1.wrapping_add(t2),
         b: s.a,
         c: s.b,
         d: s.c,
-        e: wrapping_add_u64(s.d, t1),
+        e: s.d.wrapping_add(t1),
         f: s.e,
         g: s.f,
         h: s.g,
     }
 }
 
-fn round_at(v: Words, k: &[u64; 80], w: &[u64; 80], t: usize) -> Words
-    requires { t < 80 }
-    ensures { result ≡ round v (slice_index k.now t) (slice_index w.now t) }
+// The four rounds from t on, whose words were loaded.
+#[inline(always)]
+fn first_four(v: Words, w: &[u64; 16], t: usize) -> Words
+    requires { t ≤ 12 }
+    ensures { (s : Words) (b : List ℕ) → Ring b 16 w.now → At s b t v → At s b (t + 4) result }
 {
-    round(v, k[t], w[t])
+    let k = table();
+    let v = round(v, k[t], w[t]);
+    let v = round(v, k[t + 1], w[t + 1]);
+    let v = round(v, k[t + 2], w[t + 2]);
+    round(v, k[t + 3], w[t + 3])
 }
 
-// The four rounds from t, each beside the word that the sixteenth round after it takes.
-fn four(v: Words, w: &mut [u64; 80], k: &[u64; 80], t: usize) -> Words
-    requires { t ≤ 60 }
-    ensures { (s : Words) (b : List ℕ) → k.now ≡ k_table → At s b t w.old v → At s b (t + 4) w.new result }
+// The four rounds of turn `turn` from the one p rounds into it, each with the word that it makes.
+#[inline(always)]
+fn turn_four(v: Words, w: &mut [u64; 16], turn: usize, p: usize) -> Words
+    requires later_turn { (1 ≤ turn) × (turn < 5) }
+    requires place { p ≤ 12 }
+    ensures { (s : Words) (b : List ℕ) → Ring b (16 * turn + p) w.old → At s b (16 * turn + p) v → Ring b (16 * turn + p + 4) w.new × At s b (16 * turn + p + 4) result }
 {
-    extend_at(w, t + 16);
-    let v1 = round_at(v, k, w, t);
-    extend_at(w, t + 17);
-    let v2 = round_at(v1, k, w, t + 1);
-    extend_at(w, t + 18);
-    let v3 = round_at(v2, k, w, t + 2);
-    extend_at(w, t + 19);
-    let v4 = round_at(v3, k, w, t + 3);
-    v4
+    let k = table();
+    let t = 16 * turn + p;
+    let word = next_word(w, p);
+    let v = round(v, k[t], word);
+    let word = next_word(w, p + 1);
+    let v = round(v, k[t + 1], word);
+    let word = next_word(w, p + 2);
+    let v = round(v, k[t + 2], word);
+    let word = next_word(w, p + 3);
+    round(v, k[t + 3], word)
 }
 
-fn plus(x: Words, y: Words) -> Words
-    ensures { result ≡ plus x y }
+// Adds the working variables to the hash value.
+#[tactic(auto, unfolding(crate::specs::Sha::plus, crate::specs::Word::add))]
+fn add(s: &mut Words, v: Words)
+    ensures { s.new ≡ plus s.old v }
 {
-    Words {
-        a: wrapping_add_u64(x.a, y.a),
-        b: wrapping_add_u64(x.b, y.b),
-        c: wrapping_add_u64(x.c, y.c),
-        d: wrapping_add_u64(x.d, y.d),
-        e: wrapping_add_u64(x.e, y.e),
-        f: wrapping_add_u64(x.f, y.f),
-        g: wrapping_add_u64(x.g, y.g),
-        h: wrapping_add_u64(x.h, y.h),
-    }
+    s.a = s.a.wrapping_add(v.a);
+    s.b = s.b.wrapping_add(v.b);
+    s.c = s.c.wrapping_add(v.c);
+    s.d = s.d.wrapping_add(v.d);
+    s.e = s.e.wrapping_add(v.e);
+    s.f = s.f.wrapping_add(v.f);
+    s.g = s.g.wrapping_add(v.g);
+    s.h = s.h.wrapping_add(v.h);
 }
 
-// The hash value after the block `b`. Its last sixteen rounds find their words ready.
-pub fn compress(s: Words, b: &[u8], k: &[u64; 80]) -> Words
-    requires { (128 ≤ length b.now) × (k.now ≡ k_table) }
-    ensures { result ≡ compress s b.now }
+// The hash value goes on over the block `b`.
+pub fn compress(s: &mut Words, b: &[u8])
+    requires { 128 ≤ length b.now }
+    ensures { s.new ≡ compress s.old b.now }
 {
-    let mut w = begun(b);
-    let mut v = s;
-    let mut t: usize = 0;
-    while t < 64 {
-        v = four(v, &mut w, k, t);
-        t += 4;
+    let mut w = [0u64; 16];
+    for i in 0..16 {
+        w[i] = load(b, 8 * i);
     }
-    while t < 80 {
-        v = round_at(v, k, &w, t);
-        t += 1;
+    let mut v = *s;
+    v = first_four(v, &w, 0);
+    v = first_four(v, &w, 4);
+    v = first_four(v, &w, 8);
+    v = first_four(v, &w, 12);
+    for turn in 1..5 {
+        v = turn_four(v, &mut w, turn, 0);
+        v = turn_four(v, &mut w, turn, 4);
+        v = turn_four(v, &mut w, turn, 8);
+        v = turn_four(v, &mut w, turn, 12);
     }
-    plus(s, v)
+    add(s, v);
 }
 
-// Every whole block of `p`, one after the other.
-pub fn blocks(s: Words, p: &[u8], k: &[u64; 80]) -> Words
-    requires { k.now ≡ k_table }
-    ensures { result ≡ chain s p.now (length p.now / 128) }
+// And over every whole block of `p`, one after the other.
+pub fn blocks(s: &mut Words, p: &[u8])
+    ensures { s.new ≡ chain s.old p.now (length p.now / 128) }
 {
-    let n = p.len() / 128;
-    let mut v = s;
-    let mut i: usize = 0;
-    while i < n {
-        let at = 128 * i;
-        v = compress(v, &p[at..at + 128], k);
-        i += 1;
+    for i in 0..p.len() / 128 {
+        compress(s, &p[128 * i..128 * i + 128]);
     }
-    v
 }

@@ -33,7 +33,9 @@ pub fn mask(seed: &[u8], out: &mut [u8]) -> Answer
     if out.len() > 65536 {
         return Answer::Refused;
     }
-    fill_mask(Hasher::new().update(seed), out);
+    let mut hasher = Hasher::new();
+    hasher.update(seed);
+    fill_mask(&hasher, out);
     Answer::Done
 }
 

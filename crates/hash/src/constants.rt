@@ -87,11 +87,10 @@ const K: [u64; 80] = [
     0x6c44_198c_4a47_5817,
 ];
 
-// The table in a local's memory: a caller makes it once for many blocks, and lends it.
-pub fn table() -> [u64; 80]
-    ensures { result ≡ k_table }
+pub fn table() -> &'static [u64; 80]
+    ensures { result.now ≡ k_table }
 {
-    K
+    &K
 }
 
 pub fn initial() -> Words

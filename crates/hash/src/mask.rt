@@ -1,94 +1,72 @@
-// The mask generator of document 001, section 7.4, over a seed that a hasher was given: in one slice or in several.
-ghost use Rattle.std.specs.Prelude.{◌≡◌, ℕ, ◌+◌, ◌-◌, ◌^◌, ◌<◌, ◌≤◌, List, ◌++◌, length};
+// The mask generator RLCE_MGF512 (RLCE-KEM specification of September 14, 2017, section 7.4) over a seed that a hasher was given, or
+// that comes in parts.
+ghost use Rattle.std.specs.Prelude.{◌≡◌, ℕ, ◌+◌, ◌^◌, ◌<◌, ◌≤◌, List, ◌++◌, length, map};
+ghost use Rattle.std.specs.List.{concat};
 ghost use Rattle.hash.specs.Sha.{sha512};
 ghost use Rattle.hash.specs.Mask.{bytes4, mgf, xored};
 ghost use Rattle.hash.specs.Held.{Holds};
 
 use crate::hasher::Hasher;
-use lists::wipe_bytes;
 
+#[tactic(auto, using(crate::proofs::Bytes::low_bytes))]
 fn counter(n: usize) -> [u8; 4]
     ensures { result ≡ bytes4 n }
 {
-    [
-        ((n >> 24) % 256) as u8,
-        ((n >> 16) % 256) as u8,
-        ((n >> 8) % 256) as u8,
-        (n % 256) as u8,
-    ]
+    let [.., a, b, c, d] = n.to_be_bytes();
+    [a, b, c, d]
 }
 
 // The digest of the seed and the counter n.
-fn nth(h: Hasher, n: usize) -> [u8; 64]
-    requires { h.len < 2 ^ 63 }
-    ensures { (seed : List ℕ) → Holds h seed → result ≡ sha512 (seed ++ bytes4 n) }
+fn nth(h: &Hasher, n: usize, out: &mut [u8; 64])
+    requires { h.now.len < 2 ^ 63 }
+    ensures { (seed : List ℕ) → Holds h.now seed → out.new ≡ sha512 (seed ++ bytes4 n) }
 {
-    let c = counter(n);
-    h.update(&c).finish()
-}
-
-fn least(a: usize, b: usize) -> usize
-    ensures { result ≡ b - (b - a) }
-{
-    if a < b { a } else { b }
+    let mut hasher = *h;
+    hasher.update(&counter(n));
+    hasher.finish(out);
 }
 
 // Lays a mask over s.
+#[tactic(auto, using(crate::proofs::Masks::over_none, crate::proofs::Masks::over_done))]
 fn xor_into(s: &mut [u8], mask: &[u8])
     requires { length s.old ≤ length mask.now }
     ensures { s.new ≡ xored s.old mask.now }
 {
-    let mut i: usize = 0;
-    while i < s.len() {
-        s[i] = s[i] ^ mask[i];
-        i += 1;
+    for (i, byte) in s.iter_mut().enumerate() {
+        *byte ^= mask[i];
     }
 }
 
 // Lays the mask of the seed that h was given over s.
-pub fn xor_mask(h: Hasher, s: &mut [u8])
-    requires { h.len < 2 ^ 63 }
-    ensures { (seed : List ℕ) → Holds h seed → s.new ≡ xored s.old (mgf seed (length s.old)) }
+pub fn xor_mask(h: &Hasher, s: &mut [u8])
+    requires { h.now.len < 2 ^ 63 }
+    ensures { (seed : List ℕ) → Holds h.now seed → s.new ≡ xored s.old (mgf seed (length s.old)) }
 {
-    let mut at: usize = 0;
-    let mut n: usize = 0;
-    while at < s.len() {
-        let d = nth(h, n);
-        let k = least(64, s.len() - at);
-        xor_into(&mut s[at..at + k], &d);
-        at += k;
-        n += 1;
+    let mut digest = [0; 64];
+    for n in 0..s.len().div_ceil(64) {
+        nth(h, n, &mut digest);
+        let end = s.len().min(64 * n + 64);
+        xor_into(&mut s[64 * n..end], &digest);
     }
 }
 
 // The mask of the seed that h was given, into s.
-pub fn fill_mask(h: Hasher, s: &mut [u8])
-    requires { h.len < 2 ^ 63 }
-    ensures { (seed : List ℕ) → Holds h seed → s.new ≡ mgf seed (length s.old) }
+pub fn fill_mask(h: &Hasher, s: &mut [u8])
+    requires { h.now.len < 2 ^ 63 }
+    ensures { (seed : List ℕ) → Holds h.now seed → s.new ≡ mgf seed (length s.old) }
 {
-    wipe_bytes(s);
+    s.fill(0);
     xor_mask(h, s);
 }
 
-// Lays the mask of `seed` over s.
-pub fn xor_mask_of(seed: &[u8], s: &mut [u8])
-    ensures { s.new ≡ xored s.old (mgf seed.now (length s.old)) }
+// Lays the mask of the seed that the parts are, one after the other, over s.
+pub fn xor_mask_of(seed: &[&[u8]], s: &mut [u8])
+    requires { length (concat (map (λ part. part.now) seed.now)) < 2 ^ 63 }
+    ensures { s.new ≡ xored s.old (mgf (concat (map (λ part. part.now) seed.now)) (length s.old)) }
 {
-    xor_mask(Hasher::new().update(seed), s);
-}
-
-// Lays the mask of the seed a ∥ b over s.
-pub fn xor_mask_of_two(a: &[u8], b: &[u8], s: &mut [u8])
-    requires { length a.now + length b.now < 2 ^ 63 }
-    ensures { s.new ≡ xored s.old (mgf (a.now ++ b.now) (length s.old)) }
-{
-    xor_mask(Hasher::new().update(a).update(b), s);
-}
-
-// The mask of the seed a ∥ b ∥ c, into s.
-pub fn fill_mask_of_three(a: &[u8], b: &[u8], c: &[u8], s: &mut [u8])
-    requires { length a.now + length b.now + length c.now < 2 ^ 63 }
-    ensures { s.new ≡ mgf ((a.now ++ b.now) ++ c.now) (length s.old) }
-{
-    fill_mask(Hasher::new().update(a).update(b).update(c), s);
+    let mut hasher = Hasher::new();
+    for part in seed {
+        hasher.update(part);
+    }
+    xor_mask(&hasher, s);
 }

@@ -1,17 +1,11 @@
--- Up to round 64 the record `At` is kept; then all 80 words are there, and only rounds are left.
-use Rattle.std.proofs.Common.{◌≡◌, ◌-◌, ◌%◌, ◌≤◌, take}
-use Rattle.hash.specs.Held.{At}
-use Rattle.hash.specs.Sha.{schedule, rounds}
+-- The first i words are loaded; and before a turn the rounds of the turns before it are done.
+use Rattle.std.proofs.Common.{◌≡◌, ℕ, ◌*◌, ◌<◌, length, get_or}
+use Rattle.hash.specs.Sha.{word}
+use Rattle.hash.specs.Held.{At, Ring}
 use Rattle.hash.proofs.block.compress.Given as goal
 
-abbrev pub invariant-loop-t : goal.invariant-loop-t
-invariant-loop-t l = (l.t ≤ 64) × (l.t % 4 ≡ 0) × At l.s l.b l.t l.w l.v
+abbrev pub invariant-loop-i : goal.invariant-loop-i
+invariant-loop-i l = (length l.w ≡ 16) × ((j : ℕ) → j < l.i → get_or l.w j 0 ≡ word l.b (8 * j))
 
-abbrev pub decreases-loop-t : goal.decreases-loop-t
-decreases-loop-t l = 64 - l.t
-
-abbrev pub invariant-loop-t-2 : goal.invariant-loop-t-2
-invariant-loop-t-2 l = (l.t ≤ 80) × (take 80 l.w ≡ schedule l.b 80) × (l.v ≡ rounds l.s (schedule l.b 80) l.t)
-
-abbrev pub decreases-loop-t-2 : goal.decreases-loop-t-2
-decreases-loop-t-2 l = 80 - l.t
+abbrev pub invariant-loop-turn : goal.invariant-loop-turn
+invariant-loop-turn l = Ring l.b (16 * l.turn) l.w × At l.fn.s l.b (16 * l.turn) l.v

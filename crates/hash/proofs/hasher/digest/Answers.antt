@@ -1,6 +1,6 @@
 -- One part, from the empty message.
-use Rattle.std.proofs.Common.{[]}
+use Rattle.std.proofs.Common.{◌≡◌}
 use Rattle.hash.proofs.hasher.digest.Goals as goal
 
 pub returns : goal.returns
-returns c = c.finish.ensures _ (c.update.ensures.goes_on [] c.new.ensures.holds)
+returns c = c.finish.ensures.digest _ (c.update.ensures.goes_on _ c.new-hasher.ensures.holds)

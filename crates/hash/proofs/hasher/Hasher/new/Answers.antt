@@ -1,8 +1,8 @@
 -- Nothing is held of the empty message.
-use Rattle.std.proofs.Common.{refl}
+use Rattle.std.proofs.Common.{◌≡◌, refl}
 use Rattle.hash.specs.Sha.{chain}
 use Rattle.hash.proofs.hasher.Hasher.new.Goals as goal
 
-pub returns : goal.returns
+pub returns-clause-holds : goal.returns-clause-holds
 unfolding chain
-returns c = record { counts = refl; holds = record { state_is = c.initial.ensures; rest_is = refl; rest_long = c.zeros.ensures; len_is = refl } }
+returns-clause-holds c = record { state_is = c.initial.ensures; rest_is = refl; rest_long = refl; len_is = refl }
