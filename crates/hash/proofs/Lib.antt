@@ -6,7 +6,6 @@ pub mod Rotations
 pub mod Schedule
 pub mod Bytes
 pub mod Chain
-pub mod Out
 pub mod Update
 pub mod Finish
 pub mod Masks

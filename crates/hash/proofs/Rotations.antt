@@ -1,5 +1,5 @@
 -- Rotations bit by bit: a rotation goes through xor, and two rotations are one.
-use Rattle.std.proofs.Common.{◌≡◌, ℕ, ◌+◌, ◌-◌, ◌*◌, ◌/◌, ◌%◌, ◌^◌, ◌<◌, ◌≤◌, bit_or, bit_xor, max, sym, ap, ◌∙◌, add-zero, arith, mod-lt, pow_pos, shr-shr}
+use Rattle.std.proofs.Common.{◌≡◌, ℕ, ◌+◌, ◌-◌, ◌*◌, ◌/◌, ◌%◌, ◌^◌, ◌<◌, ◌≤◌, bit_xor, max, sym, ap, ◌∙◌, add-zero, arith, mod-lt, pow_pos, shr-shr}
 use native.Mathlib.Decide.{dec_lt}
 use mir.Syntax.{w64}
 use Rattle.std.specs.Int.{bit_at, rotate_right}

@@ -1,50 +1,30 @@
 // The calls for users: any slices, and an answer.
-ghost use Rattle.std.specs.Prelude.{◌≡◌};
-ghost use Rattle.hash.specs.Answers.{number_of, Digested, Masked};
+ghost use Rattle.hash.specs.Answers.{Digested, Masked};
 
 use crate::hasher::{Hasher, digest};
 use crate::mask::fill_mask;
+use lists::Refused;
 
-#[derive(Clone, Copy)]
-pub enum Answer {
-    Done,
-    Refused,
-}
-
-// The digest of `message` into `out`, which has to be 64 bytes long.
-pub fn sha512(message: &[u8], out: &mut [u8]) -> Answer
+// The digest of `message` into `out`. Refused, with nothing written: `out` is not 64 bytes long.
+pub fn sha512(message: &[u8], out: &mut [u8]) -> Result<(), Refused>
     ensures { Digested message.now out.old result out.new }
 {
     if out.len() != 64 {
-        return Answer::Refused;
+        return Err(Refused);
     }
-    let d = digest(message);
-    out.copy_from_slice(&d);
-    Answer::Done
+    out.copy_from_slice(&digest(message));
+    Ok(())
 }
 
-// The mask of `seed` into `out`, neither of them above 65536 bytes.
-pub fn mask(seed: &[u8], out: &mut [u8]) -> Answer
+// The mask of `seed` into `out`. Refused, with nothing written: one of them is above 65536 bytes.
+pub fn mask(seed: &[u8], out: &mut [u8]) -> Result<(), Refused>
     ensures { Masked seed.now out.old result out.new }
 {
-    if seed.len() > 65536 {
-        return Answer::Refused;
-    }
-    if out.len() > 65536 {
-        return Answer::Refused;
+    if seed.len() > 65536 || out.len() > 65536 {
+        return Err(Refused);
     }
     let mut hasher = Hasher::new();
     hasher.update(seed);
     fill_mask(&hasher, out);
-    Answer::Done
-}
-
-// The answer's number in the answer table.
-pub fn number(a: Answer) -> u64
-    ensures { result ≡ number_of a }
-{
-    match a {
-        Answer::Done => 0,
-        Answer::Refused => 2,
-    }
+    Ok(())
 }

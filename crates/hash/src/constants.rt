@@ -87,12 +87,14 @@ const K: [u64; 80] = [
     0x6c44_198c_4a47_5817,
 ];
 
+// The constants of the eighty rounds. They are lent: a copy for each block would cost time.
 pub fn table() -> &'static [u64; 80]
     ensures { result.now ≡ k_table }
 {
     &K
 }
 
+// The hash value before the first block.
 pub fn initial() -> Words
     ensures { result ≡ initial }
 {

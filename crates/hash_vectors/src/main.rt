@@ -8,7 +8,7 @@ use hash::hasher::Hasher;
 // The digest by the call for users: its answer, and the slice afterwards.
 fn call(s: &[u8], out: &mut [u8]) {
     let answer = sha512(s, out);
-    vectors::number(hash::calls::number(answer) as usize);
+    vectors::number(usize::from(lists::number(answer)));
     vectors::line(out);
 }
 
@@ -19,15 +19,13 @@ fn example(s: &[u8]) {
 
 // A million times the letter a, in parts of a thousand.
 fn million() {
-    let part = [97u8; 1000];
-    let mut h = Hasher::new();
-    let mut i: usize = 0;
-    while i < 1000 {
-        h = h.update(&part);
-        i += 1;
+    let mut hasher = Hasher::new();
+    for _part in 0..1000 {
+        hasher.update(&[b'a'; 1000]);
     }
-    let d = h.finish();
-    vectors::line(&d);
+    let mut digest = [0; 64];
+    hasher.finish(&mut digest);
+    vectors::line(&digest);
 }
 
 // The first n bytes of p.
@@ -39,10 +37,8 @@ fn first(p: &[u8], n: usize) {
 }
 
 fn lengths(p: &[u8]) {
-    let mut n: usize = 0;
-    while n <= 300 {
+    for n in 0..=300 {
         first(p, n);
-        n += 1;
     }
 }
 

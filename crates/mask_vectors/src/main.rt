@@ -8,7 +8,7 @@ fn show(seed: &[u8], out: &mut [u8]) {
     let answer = mask(seed, out);
     vectors::number(seed.len());
     vectors::number(out.len());
-    vectors::number(hash::calls::number(answer) as usize);
+    vectors::number(usize::from(lists::number(answer)));
     vectors::line(&hash::hasher::digest(out));
 }
 

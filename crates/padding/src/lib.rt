@@ -35,8 +35,9 @@ fn mask_seed(p: &mut [u8], front: usize)
     requires { (front ≤ length p.old) × (length p.old < 2 ^ 32) }
     ensures { p.new ≡ seed_masked front p.old }
 {
-    let h = Hasher::new().update(&p[0..front]);
-    xor_mask(h, &mut p[front..]);
+    let mut h = Hasher::new();
+    h.update(&p[0..front]);
+    xor_mask(&h, &mut p[front..]);
 }
 
 // The mask of the bytes after the first `front`, and of e0, is laid over the first `front` bytes.
@@ -44,8 +45,10 @@ fn mask_front(p: &mut [u8], front: usize, e0: &[u8])
     requires { (front ≤ length p.old) × (length p.old < 2 ^ 32) × (length e0.now < 2 ^ 32) }
     ensures { p.new ≡ front_masked front e0.now p.old }
 {
-    let h = Hasher::new().update(&p[front..]).update(e0);
-    xor_mask(h, &mut p[0..front]);
+    let mut h = Hasher::new();
+    h.update(&p[front..]);
+    h.update(e0);
+    xor_mask(&h, &mut p[0..front]);
 }
 
 // The mask of the first k1 bytes, of those after k1 + k2, and of e0, is laid over the k2 bytes between them.
@@ -54,11 +57,11 @@ fn mask_check(p: &mut [u8], k1: usize, k2: usize, e0: &[u8])
     ensures { p.new ≡ check_masked k1 k2 e0.now p.old }
 {
     let front = k1 + k2;
-    let h = Hasher::new()
-        .update(&p[0..k1])
-        .update(&p[front..])
-        .update(e0);
-    xor_mask(h, &mut p[k1..front]);
+    let mut h = Hasher::new();
+    h.update(&p[0..k1]);
+    h.update(&p[front..]);
+    h.update(e0);
+    xor_mask(&h, &mut p[k1..front]);
 }
 
 // The message, zeros for the check bytes, and the pad seed.

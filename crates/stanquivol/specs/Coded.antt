@@ -2,19 +2,12 @@
 use Rattle.std.specs.Prelude.{◌≡◌, ℕ, Result}
 use Rattle.lists.specs.declared.Refused.{Refused}
 use Rattle.lists.specs.Answers.{number_of}
-use Rattle.hash.specs.declared.calls.Answer.{Answer as HashAnswer}
-use Rattle.hash.specs.Answers.{number_of as hash_number_of}
 use Rattle.scheme.specs.declared.Answer.{Answer as CallAnswer}
 use Rattle.scheme.specs.Answers.{coded}
 
 pub record Coded (Promise : Result (Unit {0}) Refused → Type 0) (r : ℕ) : Type 0 where
   pub answer : Result (Unit {0}) Refused
   pub number : r ≡ number_of answer
-  pub holds : Promise answer
-
-pub record HashCoded (Promise : HashAnswer → Type 0) (r : ℕ) : Type 0 where
-  pub answer : HashAnswer
-  pub number : r ≡ hash_number_of answer
   pub holds : Promise answer
 
 -- of the five calls: the number, and 256 times the count

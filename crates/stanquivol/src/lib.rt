@@ -6,13 +6,12 @@ ghost use Rattle.lists.specs.Answers.{number_of};
 ghost use Rattle.bits.specs.Answer.{Unpacked, Packed};
 ghost use Rattle.perm.specs.Answer.{Shuffled, Inverted};
 ghost use Rattle.hash.specs.Answers.{Digested, Masked};
-ghost use Rattle.stanquivol.specs.Coded.{Coded, HashCoded, CallCoded};
+ghost use Rattle.stanquivol.specs.Coded.{Coded, CallCoded};
 ghost use Rattle.scheme.specs.Answers.{count_of, coded};
 ghost use Rattle.scheme.specs.Calls.{setup_ends, seal_ends, OpenEnds, wrap_ends, UnwrapEnds};
 ghost use Rattle.calls.specs.Ends.{setup_end, seal_end};
 
 use calls::{closing, disclosing, founding};
-use hash::calls::Answer as Hashed;
 use lists::Refused;
 use scheme::Answer as Called;
 
@@ -20,15 +19,6 @@ fn number(answer: Result<(), Refused>) -> u16
     ensures { result ≡ number_of answer }
 {
     u16::from(lists::number(answer))
-}
-
-fn hash_number(a: Hashed) -> u16
-    ensures { result ≡ Rattle.hash.specs.Answers.number_of a }
-{
-    match a {
-        Hashed::Done => 0,
-        Hashed::Refused => 2,
-    }
 }
 
 fn bare_number(a: Called) -> u16
@@ -107,16 +97,16 @@ pub extern "C" fn stanquivol_invert(list: &[u16], inverse: &mut [u16]) -> u16
 
 #[unsafe(no_mangle)]
 pub extern "C" fn stanquivol_mask(seed: &[u8], mask: &mut [u8]) -> u16
-    ensures { HashCoded (λ a. Masked seed.now mask.old a mask.new) result }
+    ensures { Coded (λ a. Masked seed.now mask.old a mask.new) result }
 {
-    hash_number(hash::calls::mask(seed, mask))
+    number(hash::calls::mask(seed, mask))
 }
 
 #[unsafe(no_mangle)]
 pub extern "C" fn stanquivol_sha512(bytes: &[u8], digest: &mut [u8]) -> u16
-    ensures { HashCoded (λ a. Digested bytes.now digest.old a digest.new) result }
+    ensures { Coded (λ a. Digested bytes.now digest.old a digest.new) result }
 {
-    hash_number(hash::calls::sha512(bytes, digest))
+    number(hash::calls::sha512(bytes, digest))
 }
 
 #[unsafe(no_mangle)]

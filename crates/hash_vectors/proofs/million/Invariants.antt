@@ -1,9 +1,6 @@
 -- A part is a thousand bytes, so the message's length fits.
-use Rattle.std.proofs.Common.{◌≡◌, ◌≤◌, ◌*◌, ◌-◌}
+use Rattle.std.proofs.Common.{◌≡◌, ◌*◌}
 use Rattle.hash_vectors.proofs.million.Given as goal
 
-abbrev pub invariant-loop-i : goal.invariant-loop-i
-invariant-loop-i l = (l.i ≤ 1000) × (l.h.len ≡ l.i * 1000)
-
-abbrev pub decreases-loop-i : goal.decreases-loop-i
-decreases-loop-i l = 1000 - l.i
+abbrev pub invariant-loop-part : goal.invariant-loop-part
+invariant-loop-part l = l.hasher.len ≡ l.part * 1000

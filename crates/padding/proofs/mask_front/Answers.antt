@@ -6,5 +6,5 @@ use Rattle.padding.proofs.mask_front.Goals as goal
 pub returns : goal.returns
 returns c =
     let a = c.args in
-    front-step a.p.now a.e0.now a.front _ _ _ (search rules) c.new.ensures.holds c.update.ensures.goes_on c.update-h.ensures.goes_on
+    front-step a.p.now a.e0.now a.front _ _ _ (search rules) c.new-h.ensures.holds c.update.ensures.goes_on c.update-2.ensures.goes_on
     c.xor_mask.ensures

@@ -5,4 +5,4 @@ use Rattle.padding.proofs.mask_seed.Goals as goal
 pub returns : goal.returns
 returns c =
     let a = c.args in
-    seed-step a.p.now a.front _ _ c.new.ensures.holds c.update-h.ensures.goes_on c.xor_mask.ensures
+    seed-step a.p.now a.front _ _ c.new-h.ensures.holds c.update.ensures.goes_on c.xor_mask.ensures

@@ -1,4 +1,4 @@
-use Rattle.std.proofs.Common.{◌≡◌, refl, ◌∙◌, ap, arith}
+use Rattle.std.proofs.Common.{refl}
 use Rattle.hash.specs.Sha.{chain}
 use Rattle.hash.proofs.Chain.{chain-step}
 use Rattle.hash.proofs.block.blocks.Goals as goal

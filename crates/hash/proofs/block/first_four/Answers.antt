@@ -1,5 +1,5 @@
 -- Four times `loaded_round`.
-use Rattle.std.proofs.Common.{◌≡◌, ◌+◌, refl, arith}
+use Rattle.std.proofs.Common.{◌+◌, refl, arith}
 use Rattle.hash.proofs.Schedule.{loaded_round}
 use Rattle.hash.proofs.block.first_four.Goals as goal
 

@@ -1,5 +1,5 @@
 -- Four times `ring_round`.
-use Rattle.std.proofs.Common.{◌≡◌, ◌+◌, ◌*◌, refl, arith}
+use Rattle.std.proofs.Common.{◌+◌, ◌*◌, refl, arith}
 use Rattle.hash.proofs.Schedule.{ring_round}
 use Rattle.hash.proofs.block.turn_four.Goals as goal
 

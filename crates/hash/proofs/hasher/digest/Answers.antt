@@ -1,5 +1,4 @@
 -- One part, from the empty message.
-use Rattle.std.proofs.Common.{◌≡◌}
 use Rattle.hash.proofs.hasher.digest.Goals as goal
 
 pub returns : goal.returns

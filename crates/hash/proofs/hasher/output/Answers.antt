@@ -1,5 +1,4 @@
 -- Eight times `put`, which `all_put` reads as the eight words.
-use Rattle.std.proofs.Common.{◌≡◌}
 use Rattle.hash.proofs.Bytes.{all_put}
 use Rattle.hash.proofs.hasher.output.Goals as goal
 

@@ -1,4 +1,4 @@
-use Rattle.std.proofs.Common.{◌≡◌, rules}
+use Rattle.std.proofs.Common.{rules}
 use Rattle.hash.proofs.Masks.{over_more}
 use Rattle.hash.proofs.mask.xor_into.Goals as goal
 

@@ -1,5 +1,4 @@
 -- The first i bytes have their mask.
-use Rattle.std.proofs.Common.{◌≡◌}
 use Rattle.hash.proofs.Masks.{Over}
 use Rattle.hash.proofs.mask.xor_into.Given as goal
 

@@ -1,4 +1,4 @@
-use Rattle.std.proofs.Common.{◌≡◌, ◌*◌, length, min, arith}
+use Rattle.std.proofs.Common.{◌≡◌, length, min, arith}
 use Rattle.hash.specs.Mask.{mgf}
 use Rattle.hash.proofs.Masks.{over_none, over_digest, over_digests}
 use Rattle.hash.proofs.mask.xor_mask.Goals as goal

@@ -1,5 +1,5 @@
 -- The bytes of the first n digests have their mask.
-use Rattle.std.proofs.Common.{◌≡◌, List, ℕ, ◌*◌, length, min}
+use Rattle.std.proofs.Common.{List, ℕ, ◌*◌, length, min}
 use Rattle.hash.specs.Mask.{mgf}
 use Rattle.hash.specs.Held.{Holds}
 use Rattle.hash.proofs.Masks.{Over}

@@ -1,4 +1,4 @@
-use Rattle.std.proofs.Common.{◌≡◌, Bor, List, [], ℕ, arith}
+use Rattle.std.proofs.Common.{Bor, List, [], ℕ, arith}
 use Rattle.hash.proofs.Masks.{joined, joined_fits}
 use Rattle.hash.proofs.mask.xor_mask_of.Goals as goal
 

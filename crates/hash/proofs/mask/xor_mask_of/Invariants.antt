@@ -1,5 +1,5 @@
 -- The hasher holds the parts that were taken so far.
-use Rattle.std.proofs.Common.{◌≡◌, length, take, map}
+use Rattle.std.proofs.Common.{take, map}
 use Rattle.std.specs.List.{concat}
 use Rattle.hash.specs.Held.{Holds}
 use Rattle.hash.proofs.mask.xor_mask_of.Given as goal

@@ -1,5 +1,5 @@
 -- The padding is two parts more (`padded`).
-use Rattle.std.proofs.Common.{◌≡◌, refl, ◌∙◌}
+use Rattle.std.proofs.Common.{refl, ◌∙◌}
 use Rattle.hash.proofs.Finish.{padded}
 use Rattle.hash.proofs.hasher.Hasher.finish.Goals as goal
 

@@ -1,5 +1,5 @@
 -- Nothing is held of the empty message.
-use Rattle.std.proofs.Common.{◌≡◌, refl}
+use Rattle.std.proofs.Common.{refl}
 use Rattle.hash.specs.Sha.{chain}
 use Rattle.hash.proofs.hasher.Hasher.new.Goals as goal
 

@@ -22,5 +22,5 @@ returns-clause-goes_on c =
     let last = c.copy_from_slice-3.ensures.after in
     let to_end = between_to_end t (length t / 128 * 128) (length t) (omega arith) in
     many h.state h.rest h.len c.args.s.now {u = c.copy_from_slice-3.new.self} c.if-s-room.false (ap (λ (p : List ℕ). put n (128 - n) p h.rest) first)
-        c.compress.ensures c.split_at.ensures.back c.blocks-2.ensures (last ∙ to_end)
-        (ap (λ (k : ℕ). put 0 k c.copy_from_slice-3.new.self (put n (128 - n) c.copy_from_slice-2.new.self h.rest)) (sym (ap length last)))
+    c.compress.ensures c.split_at.ensures.back c.blocks-2.ensures (last ∙ to_end)
+    (ap (λ (k : ℕ). put 0 k c.copy_from_slice-3.new.self (put n (128 - n) c.copy_from_slice-2.new.self h.rest)) (sym (ap length last)))
