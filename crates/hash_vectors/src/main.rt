@@ -20,7 +20,7 @@ fn example(s: &[u8]) {
 // A million times the letter a, in parts of a thousand.
 fn million() {
     let mut hasher = Hasher::new();
-    for _part in 0..1000 {
+    for _part in 0..1000u64 {
         hasher.update(&[b'a'; 1000]);
     }
     let mut digest = [0; 64];

@@ -3,4 +3,4 @@ use Rattle.std.proofs.Common.{◌≡◌, ◌*◌}
 use Rattle.hash_vectors.proofs.million.Given as goal
 
 abbrev pub invariant-loop-part : goal.invariant-loop-part
-invariant-loop-part l = l.hasher.len ≡ l.part * 1000
+invariant-loop-part l = l.hasher.len ≡ l._part * 1000
