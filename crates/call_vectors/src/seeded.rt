@@ -66,7 +66,7 @@ fn work_room() -> [u16; 1336384]
 // A key pair from the mask of a seed.
 fn found(seed: &[u8], public: &mut [u8], private: &mut [u8], work: &mut [u16]) -> Answer {
     let mut random = random_room();
-    hash::calls::mask(seed, &mut random);
+    let _ = hash::calls::mask(seed, &mut random);
     calls::founding::setup(0x11, &random, public, private, work)
 }
 
@@ -74,8 +74,8 @@ fn found(seed: &[u8], public: &mut [u8], private: &mut [u8], work: &mut [u16]) -
 fn close(text: &[u8], seed: &[u8], public: &[u8], cipher: &mut [u8], work: &mut [u16]) -> Answer {
     let mut message = [0u8; 504];
     let mut blocks = blocks_room();
-    hash::calls::mask(text, &mut message);
-    hash::calls::mask(seed, &mut blocks);
+    let _ = hash::calls::mask(text, &mut message);
+    let _ = hash::calls::mask(seed, &mut blocks);
     calls::closing::seal(public, &blocks, &message, cipher, work)
 }
 
@@ -83,10 +83,10 @@ fn close(text: &[u8], seed: &[u8], public: &[u8], cipher: &mut [u8], work: &mut 
 fn digests(public: &[u8], private: &[u8], cipher: &[u8], opened: &[u8], out: &mut [u8])
     requires { 261 ≤ length out.old }
 {
-    hash::calls::sha512(public, &mut out[0..64]);
-    hash::calls::sha512(private, &mut out[64..128]);
-    hash::calls::sha512(cipher, &mut out[128..192]);
-    hash::calls::sha512(opened, &mut out[192..256]);
+    let _ = hash::calls::sha512(public, &mut out[0..64]);
+    let _ = hash::calls::sha512(private, &mut out[64..128]);
+    let _ = hash::calls::sha512(cipher, &mut out[128..192]);
+    let _ = hash::calls::sha512(opened, &mut out[192..256]);
 }
 
 fn put(out: &mut [u8], i: usize, v: u8)

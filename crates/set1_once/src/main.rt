@@ -55,7 +55,7 @@ fn print_digest(name: &[u8], s: &[u8]) {
 fn make_keys(public: &mut [u8], private: &mut [u8], work: &mut [u16]) {
     let mut space = random_room();
     let random: &mut [u8] = &mut space;
-    hash::calls::mask(b"setup", random);
+    let _ = hash::calls::mask(b"setup", random);
     let answer = calls::founding::setup(0x11, random, public, private, work);
     print_answer(b"setup ", answer);
     print_digest(b"public ", public);
@@ -65,7 +65,7 @@ fn make_keys(public: &mut [u8], private: &mut [u8], work: &mut [u16]) {
 fn seal_message(key: &[u8], message: &[u8], cipher: &mut [u8], work: &mut [u16]) {
     let mut space = [0u8; 376];
     let random: &mut [u8] = &mut space;
-    hash::calls::mask(b"seal", random);
+    let _ = hash::calls::mask(b"seal", random);
     let answer = calls::closing::seal(key, random, message, cipher, work);
     print_answer(b"seal ", answer);
     print_digest(b"cipher ", cipher);
@@ -84,7 +84,7 @@ fn seal_and_open(public: &[u8], private: &[u8], work: &mut [u16]) {
     let mut cipher_space = [165u8; 785];
     let message: &mut [u8] = &mut message_space;
     let cipher: &mut [u8] = &mut cipher_space;
-    hash::calls::mask(b"message", message);
+    let _ = hash::calls::mask(b"message", message);
     seal_message(public, message, cipher, work);
     open_message(private, cipher, work);
     print_digest(b"sealed ", message);
