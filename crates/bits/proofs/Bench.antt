@@ -1,4 +1,4 @@
--- 01, Bench values: the cases of packing that are proved, by computing the definitions.
+-- Cases of packing, proved by computing the definitions.
 use mathlib.Core.Path.{◌≡◌, refl}
 use mathlib.Core.List.{[], ◌∷◌}
 use Prim.Native.Nat.{ℕ}

@@ -11,6 +11,7 @@ use lib.Arith.{digits_div}
 use lib.ListN.{length, get_or, drop, get_or-eq_default}
 use lib.Seq.{get_or-drop, drop-drop}
 use Rattle.lists.specs.Loops.{tab}
+use Rattle.lists.proofs.Tables.{tab_of}
 use Rattle.bits.specs.Bits.{bits, value, grouped, elements, elements_in, packed, bytes_for, bits_at, elements_at, tail_zero, Small}
 use Rattle.bits.proofs.Strings.{Bits, bits-bit, drop-bit, length-bits, value-lt, value_none, value-nil, value_same, value-add, value-number, digits, window, length-grouped, grouped-at, grouped-tab, grouped-small, grouped-same, grouped-bits, bits-grouped, bits-past}
 
@@ -52,10 +53,16 @@ pub elements_at-tab : (n m : ℕ) (bs : List ℕ) (p : ℕ) → elements_at n m 
 unfolding elements_at bits_at
 elements_at-tab n m bs p = grouped-tab n m (drop p (bits 8 bs)) ∙ simp drop-drop
 
+pub elements_at_of : (n m : ℕ) (bs : List ℕ) (p : ℕ) (out : List ℕ) → length out ≡ n → ((k : ℕ) → k < n → get_or out k 0 ≡ bits_at m bs (p + m * k)) → out ≡ elements_at n m bs p
+elements_at_of n m bs p out l h = tab_of n (λ k. bits_at m bs (p + m * k)) out l h ∙ sym (elements_at-tab n m bs p)
+
 -- all elements are those from the first bit on
 pub elements-from : (m : ℕ) (bs : List ℕ) → elements m bs ≡ elements_at (elements_in m (length bs)) m bs 0
 unfolding elements elements_at
 elements-from m bs = refl
+
+-- for `using` at a function that unpacks all of them
+pub ruleset all_elements = (elements-from)
 
 pub elements-at : (m : ℕ) (bs : List ℕ) (i : ℕ) → i < elements_in m (length bs) → get_or (elements m bs) i 0 ≡ bits_at m bs (m * i)
 unfolding elements bits_at
@@ -64,6 +71,10 @@ elements-at m bs i h = grouped-at (elements_in m (length bs)) m (bits 8 bs) i h
 pub packed-tab : (m : ℕ) (es : List ℕ) → packed m es ≡ tab (bytes_for m (length es)) (λ j. value 8 (drop (8 * j) (bits m es)))
 unfolding packed
 packed-tab m es = grouped-tab (bytes_for m (length es)) 8 (bits m es)
+
+-- bytes that write the string of bits, eight each, are what packing gives
+pub packed_of : (m : ℕ) (es out : List ℕ) → length out ≡ bytes_for m (length es) → ((k : ℕ) → k < length out → get_or out k 0 ≡ value 8 (drop (8 * k) (bits m es))) → out ≡ packed m es
+packed_of m es out l h = tab_of (length out) (λ k. value 8 (drop (8 * k) (bits m es))) out refl h ∙ rw l (sym (packed-tab m es))
 
 -- the same by division: the bytes are one number, in base 256, and the bits at a place are its digits there
 pub bits-number : (m : ℕ) (bs : List ℕ) → Small 8 bs → (p t : ℕ) → p + m + t ≡ 8 * length bs → bits_at m bs p ≡ digits 8 bs (length bs) / 2 ^ t % 2 ^ m

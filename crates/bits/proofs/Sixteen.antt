@@ -1,13 +1,13 @@
 -- 16-bit numbers: there and back.
 use mathlib.Core.Path.{◌≡◌, refl, sym, ◌∙◌, ap}
 use mathlib.Core.Bool.{true}
-use mathlib.Core.List.{List, [], ◌∷◌, ◌++◌, append_assoc, append-nil}
-use Prim.Native.Nat.{ℕ, zero, suc, ◌+◌, ◌*◌, ◌/◌, ◌%◌, ◌^◌, ◌≤◌, ◌<◌}
+use mathlib.Core.List.{List, [], ◌∷◌}
+use Prim.Native.Nat.{ℕ, zero, suc, ◌+◌, ◌*◌, ◌/◌, ◌%◌, ◌^◌, ◌<◌}
 use native.Mathlib.Nat.{zero-mul, zero-add, add-zero, div-one, mod-eq_of_lt}
-use native.Mathlib.Numerals.{add-one}
+use native.Mathlib.Decide.{dec_lt}
 use native.Mathlib.Omega.{arith}
-use lib.ListN.{length, get_or, set, take, drop, length-append, drop_of_length-le}
-use lib.Seq.{ext_get_or, get_or-drop, drop-cons, take-suc, set_at, append_snoc, take_all, length-take-le}
+use lib.ListN.{length, get_or}
+use lib.Seq.{ext_get_or, get_or-drop}
 use Rattle.lists.specs.Loops.{tab}
 use Rattle.lists.proofs.Tables.{length-tab, get_or-tab, tab-ext}
 use Rattle.bits.specs.Bits.{bits_at, elements, elements_in, packed, tail_zero, Small}
@@ -49,11 +49,6 @@ bytes16-small [] i = omega arith
 bytes16-small (x ∷ xs) zero = omega arith
 bytes16-small (x ∷ xs) (suc zero) = omega arith
 bytes16-small (x ∷ xs) (suc (suc i)) = bytes16-small xs i
-
-pub bytes16-append : (xs ys : List ℕ) → bytes16 (xs ++ ys) ≡ bytes16 xs ++ bytes16 ys
-unfolding bytes16
-bytes16-append [] ys = refl
-bytes16-append (x ∷ xs) ys = rw (bytes16-append xs ys)
 
 -- ---- numbers to bytes to numbers, and back
 pub numbers16-bytes16 : (xs : List ℕ) → Small 16 xs → numbers16 (bytes16 xs) ≡ xs
@@ -99,29 +94,19 @@ bytes16-numbers16 bs small even =
     rw same (bytes16-packed (elements 16 bs) (elements-small 16 bs))
     ∙ packed-elements 16 bs small (omega arith) (no-tail 16 bs (omega arith))
 
--- ---- a slice that is written from the front, one number a turn: out ≡ bytes16 (take i s) ++ drop (2 * i) out₀
-pub bytes16-none : (out₀ : List ℕ) → out₀ ≡ bytes16 [] ++ out₀
-unfolding bytes16
-bytes16-none out₀ = refl
+-- ---- bytes that are those of the numbers, two for each, are all that the loop leaves
+even_or : {P : Type 0} (i : ℕ) → (i ≡ 2 * (i / 2) → P) → (i ≡ 2 * (i / 2) + 1 → P) → P
+even_or {P} i f g = go (dec_lt (i % 2) 1)
+  where
+    go : Dec (i % 2 < 1) → P
+    go (yes h) = f (omega arith)
+    go (no h) = g (omega arith)
 
-two-sets : (a : List ℕ) (x y u v : ℕ) (r : List ℕ) (n : ℕ) → length a ≡ n → set (set (a ++ x ∷ y ∷ r) n u) (n + 1) v ≡ a ++ u ∷ v ∷ r
-two-sets a x y u v r n l =
-    let e : length (a ++ (u ∷ [])) ≡ n + 1 = length-append a (u ∷ []) ∙ ap (λ (k : ℕ). k + 1) l in
-    rw (set_at a x (y ∷ r) u n l) (rw (← append_snoc a u (y ∷ r), ← append_snoc a u (v ∷ r)) (set_at (a ++ (u ∷ [])) y r v (n + 1) e))
-
-twice : (i : ℕ) → 2 * suc i ≡ suc (suc (2 * i))
-twice i = omega arith
-
-module _ (s out₀ out : List ℕ) (i : ℕ) (e : out ≡ bytes16 (take i s) ++ drop (2 * i) out₀) (long : length out₀ ≡ 2 * length s) where
-  pub bytes16-more : i < length s → set (set out (2 * i) (get_or s i 0 / 256 % 256)) (2 * i + 1) (get_or s i 0 % 256) ≡ bytes16 (take (i + 1) s) ++ drop (2 * (i + 1)) out₀
-  unfolding bytes16
-  bytes16-more h =
-      let la : length (bytes16 (take i s)) ≡ 2 * i = length-bytes16 (take i s) ∙ ap (λ (n : ℕ). 2 * n) (length-take-le i s (omega arith)) in
-      let h₁ : 2 * i < length out₀ = omega arith in
-      let h₂ : suc (2 * i) < length out₀ = omega arith in
-      rw (e, drop-cons out₀ (2 * i) 0 h₁, drop-cons out₀ (suc (2 * i)) 0 h₂, two-sets (bytes16 (take i s)) _ _ _ _ _ (2 * i) la, add-one i, take-suc s i 0 h, bytes16-append, twice i, append_assoc)
-
-  pub bytes16-done : i ≤ length s → length s ≤ i → out ≡ bytes16 s
-  bytes16-done h g =
-      let past : length out₀ ≤ 2 * i = omega arith in
-      e ∙ rw (take_all i s g, drop_of_length-le out₀ past, append-nil)
+pub bytes16_of : (s out : List ℕ) → length out ≡ 2 * length s → ((k : ℕ) → k < length s → get_or out (2 * k) 0 ≡ get_or s k 0 / 256 % 256)
+    → ((k : ℕ) → k < length s → get_or out (2 * k + 1) 0 ≡ get_or s k 0 % 256) → out ≡ bytes16 s
+bytes16_of s out l high low =
+    ext_get_or 0 out (bytes16 s) (l ∙ sym (length-bytes16 s))
+    (λ i h. let k : i / 2 < length s = omega arith in
+    even_or i
+    (λ e. rw e (high (i / 2) k ∙ sym (bytes16-high s (i / 2))))
+    (λ e. rw e (low (i / 2) k ∙ sym (bytes16-low s (i / 2)))))

@@ -1,4 +1,4 @@
--- 01, Field and bits; 001, 7.10: a byte string is a string of bits, and elements of m bits each are cut from it.
+-- A byte string is a string of bits, and elements of m bits each are cut from it (RLCE-KEM specification of September 14, 2017, section 7.10).
 use Rattle.std.specs.Prelude.{Bool, true, false, List, [], ◌∷◌, ◌++◌, ℕ, zero, suc, ◌+◌, ◌*◌, ◌/◌, ◌%◌, ◌^◌, ◌<◌, eqb, length, get_or, drop}
 
 -- the w bits of x, the highest first

@@ -1,4 +1,4 @@
--- 01, Field and bits; 001, 7.2 and 7.3: 16-bit numbers in a byte string, the high byte first.
+-- 16-bit numbers in a byte string, the high byte first (RLCE-KEM specification of September 14, 2017, sections 7.2 and 7.3).
 use Rattle.std.specs.Prelude.{List, [], ◌∷◌, ℕ, ◌+◌, ◌*◌, ◌/◌, ◌%◌, length, get_or}
 use Rattle.lists.specs.Loops.{tab}
 

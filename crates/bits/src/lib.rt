@@ -17,16 +17,21 @@ pub use reading::{bits_at, tail_zero, unpack, unpack_at};
 pub use writing::{pack, small};
 
 // How many whole elements some bytes hold; 8 times the number of bytes need not fit a usize.
+#[tactic(auto, using(crate::proofs::Windows::elements_counted))]
 fn element_count(m: usize, bytes: usize) -> usize
-    requires { (8 ≤ m) × (m ≤ 16) × (bytes < 2 ^ 63) }
+    requires wide { 8 ≤ m }
+    requires narrow { m ≤ 16 }
+    requires short { bytes < 2 ^ 63 }
     ensures { result ≡ elements_in m bytes }
 {
     8 * (bytes / m) + 8 * (bytes % m) / m
 }
 
 // How many bytes some elements take; m times the number of elements need not fit either.
+#[tactic(auto, using(crate::proofs::Windows::bytes_counted))]
 fn byte_count(m: usize, elements: usize) -> usize
-    requires { (m ≤ 16) × (elements < 2 ^ 62) }
+    requires narrow { m ≤ 16 }
+    requires short { elements < 2 ^ 62 }
     ensures { result ≡ bytes_for m elements }
 {
     m * (elements / 8) + (m * (elements % 8) + 7) / 8

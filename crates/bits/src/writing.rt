@@ -1,6 +1,7 @@
 // Writing elements as bytes.
 ghost use Rattle.std.specs.Prelude.{◌≡◌, ◌+◌, ◌*◌, ◌<◌, ◌≤◌, ◌^◌, length, get_or, drop};
 ghost use Rattle.bits.specs.Bits.{bits, value, packed, bytes_for, Small, Decided};
+ghost use Rattle.bits.specs.Steps.{Below};
 
 use super::reading::cut;
 
@@ -8,25 +9,17 @@ use super::reading::cut;
 fn word_at(s: &[u16], i: usize) -> u32
     ensures { result ≡ get_or s.now i 0 }
 {
-    if i < s.len() { s[i] as u32 } else { 0 }
+    u32::from(s.get(i).copied().unwrap_or(0))
 }
 
 // The two elements at q as one number.
 fn two_at(s: &[u16], m: usize, q: usize) -> u32
-    requires { (m ≤ 16) × (q < 2 ^ 63) × Small m s.now }
+    requires narrow { m ≤ 16 }
+    requires near { q < 2 ^ 63 }
+    requires small { Small m s.now }
     ensures { result ≡ get_or s.now q 0 * 2 ^ m + get_or s.now (q + 1) 0 }
 {
-    let a = word_at(s, q);
-    let b = word_at(s, q + 1);
-    (a << m) + b
-}
-
-// The eight bits after the first r bits of element q; at most two elements hold them.
-fn byte_in(s: &[u16], m: usize, q: usize, r: usize) -> u8
-    requires { (8 ≤ m) × (m ≤ 16) × (q < 2 ^ 63) × (r < m) × Small m s.now }
-    ensures { result ≡ value 8 (drop (m * q + r) (bits m s.now)) }
-{
-    cut(two_at(s, m, q), 2 * m - r - 8, 8) as u8
+    (word_at(s, q) << m) + word_at(s, q + 1)
 }
 
 // A bit within an element.
@@ -36,52 +29,74 @@ struct Place {
     bit: usize,
 }
 
-// The place eight bits on.
-fn byte_on(m: usize, q: usize, r: usize) -> Place
-    requires { (8 ≤ m) × (m ≤ 16) × (q < 2 ^ 63) × (r < m) }
-    ensures { (m * result.element + result.bit ≡ m * q + r + 8) × (result.bit < m) }
-{
-    if r + 8 < m {
-        Place {
-            element: q,
-            bit: r + 8,
+impl Place {
+    // The place eight bits on.
+    fn byte_on(self, m: usize) -> Place
+        requires wide { 8 ≤ m }
+        requires narrow { m ≤ 16 }
+        requires near { self.element < 2 ^ 63 }
+        requires within { self.bit < m }
+        ensures on { m * result.element + result.bit ≡ m * self.element + self.bit + 8 }
+        ensures within { result.bit < m }
+    {
+        let bit = self.bit + 8;
+        if bit < m {
+            Place {
+                element: self.element,
+                bit,
+            }
+        } else {
+            Place {
+                element: self.element + 1,
+                bit: bit - m,
+            }
         }
-    } else {
-        Place {
-            element: q + 1,
-            bit: r + 8 - m,
-        }
+    }
+
+    // The eight bits from here on; at most two elements hold them.
+    #[tactic(auto, using(crate::proofs::Windows::two_bits))]
+    fn byte(self, s: &[u16], m: usize) -> u8
+        requires wide { 8 ≤ m }
+        requires narrow { m ≤ 16 }
+        requires near { self.element < 2 ^ 63 }
+        requires within { self.bit < m }
+        requires small { Small m s.now }
+        ensures { result ≡ value 8 (drop (m * self.element + self.bit) (bits m s.now)) }
+    {
+        cut(two_at(s, m, self.element), 2 * m - self.bit - 8, 8) as u8
     }
 }
 
 // All elements to bytes.
+#[tactic(auto, using(crate::proofs::Packing::packed_of))]
 pub fn pack(s: &[u16], m: usize, out: &mut [u8])
     requires { (8 ≤ m) × (m ≤ 16) × Small m s.now × (length out.old ≡ bytes_for m (length s.now)) }
     ensures { out.new ≡ packed m s.now }
 {
-    let mut q = 0;
-    let mut r = 0;
-    let mut j = 0;
-    while j < out.len() {
-        out[j] = byte_in(s, m, q, r);
-        let p = byte_on(m, q, r);
-        q = p.element;
-        r = p.bit;
-        j += 1;
+    let mut place = Place { element: 0, bit: 0 };
+    for (j, x) in out.iter_mut().enumerate() {
+        *x = place.byte(s, m);
+        place = place.byte_on(m);
     }
 }
 
+// Whether each element is below the limit.
+fn below(s: &[u16], limit: u32) -> bool
+    ensures { Decided result (Below limit s.now) }
+{
+    for &x in s {
+        if limit <= u32::from(x) {
+            return false;
+        }
+    }
+    true
+}
+
 // Whether each element is below 2 to the m.
+#[tactic(auto, using(crate::proofs::Windows::small_decided, crate::proofs::Windows::one_shl))]
 pub fn small(s: &[u16], m: usize) -> bool
     requires { m ≤ 16 }
     ensures { Decided result (Small m s.now) }
 {
-    let mut i = 0;
-    while i < s.len() {
-        if (1u32 << m) <= (s[i] as u32) {
-            return false;
-        }
-        i += 1;
-    }
-    true
+    below(s, 1 << m)
 }

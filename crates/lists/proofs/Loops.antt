@@ -23,6 +23,9 @@ module _ {A : Type 0} (step : ℕ → A → A) where
   pub turns-end : (n k : ℕ) (x y : A) → y ≡ turns step k x → k ≤ n → n ≤ k → y ≡ turns step n x
   turns-end n k x y e h g = let q : k ≡ n = omega arith in rw q at e
 
+-- for `using` at a function whose loop makes these turns
+pub ruleset turning = (turns-none, turns_more, turns-end)
+
 pub left-suc : (n i : ℕ) → i < n → n - i ≡ suc (n - (i + 1))
 left-suc n i h = omega arith
 

@@ -1,10 +1,10 @@
 -- Laws of parts: what was put is there, and what lies before and after is as it was.
 use mathlib.Core.Path.{◌≡◌, sym, ap, ◌∙◌}
-use mathlib.Core.List.{List, ◌++◌, append_assoc}
-use Prim.Native.Nat.{ℕ, ◌+◌, ◌≤◌, ◌-◌}
+use mathlib.Core.List.{List, ◌++◌}
+use Prim.Native.Nat.{ℕ, ◌+◌, ◌≤◌}
 use native.Mathlib.Omega.{arith}
 use lib.ListN.{length, take, drop, length-take, length-drop, length-append, take-append-drop}
-use lib.Seq.{take_at, drop_at, drop-drop, length-take-le, take-append-le, drop-append-le, drop-append-add}
+use lib.Seq.{take_at, drop_at, length-take-le, take-append-le, drop-append-le}
 use Rattle.lists.specs.Parts.{part, put}
 
 pub part_length : (a n : ℕ) (l : List ℕ) → a + n ≤ length l → length (part a n l) ≡ n
@@ -32,17 +32,3 @@ module _ (a k : ℕ) (p l : List ℕ) (fits : a + k ≤ length l) (same : length
   put-before b j h =
       let h₁ : b + j ≤ length (take a l) = omega (arith, head) in
       part-front (take a l) (p ++ drop k (drop a l)) b j h₁ ∙ sym (part-front (take a l) (drop a l) b j h₁) ∙ ap (part b j) (take-append-drop a l)
-
-  -- what lies after is as it was
-  pub put-after : (b j : ℕ) → a + k ≤ b → part b j (put a k p l) ≡ part b j l
-  put-after b j h =
-      let x = take a l ++ p in
-      let e : b ≡ length (take a l ++ p) + (b - (a + k)) = simp length-append (omega (arith, head)) in
-      let e₂ : a + k + (b - (a + k)) ≡ b = omega arith in
-      ap (take j) (
-      ap (drop b) (sym (append_assoc (take a l) p (drop k (drop a l))))
-      ∙ ap (λ (n : ℕ). drop n (x ++ drop k (drop a l))) e
-      ∙ drop-append-add x (drop k (drop a l)) (b - (a + k))
-      ∙ ap (drop (b - (a + k))) (drop-drop k a l)
-      ∙ drop-drop (b - (a + k)) (a + k) l
-      ∙ ap (λ (n : ℕ). drop n l) e₂)

@@ -33,6 +33,10 @@ unfolding tab
 tab-ext zero f g e = refl
 tab-ext (suc n) f g e = rw (tab-ext n f g (λ i h. e i (omega arith)), e n (omega arith))
 
+-- a list whose elements are those of the table is the table: what a loop that fills a slice from the front leaves
+pub tab_of : (n : ℕ) (f : ℕ → ℕ) (s : List ℕ) → length s ≡ n → ((i : ℕ) → i < n → get_or s i 0 ≡ f i) → s ≡ tab n f
+tab_of n f s l e = ext_get_or 0 s (tab n f) (l ∙ sym (length-tab n f)) (λ i h. let lt : i < n = omega (arith, l) in e i lt ∙ sym (get_or-tab n f i lt))
+
 -- ---- a slice that is filled from the front, one store a turn: its invariant is s ≡ tab i f ++ drop i s₀
 pub tab-none : (f : ℕ → ℕ) (s₀ : List ℕ) → s₀ ≡ tab 0 f ++ drop 0 s₀
 unfolding tab
@@ -53,9 +57,7 @@ module _ (f : ℕ → ℕ) (s₀ s : List ℕ) (i : ℕ) (e : s ≡ tab i f ++ d
 
 -- a list is the table of its elements
 pub tab-get_or : (l : List ℕ) → l ≡ tab (length l) (λ i. get_or l i 0)
-tab-get_or l =
-    let f : ℕ → ℕ = λ i. get_or l i 0 in
-    ext_get_or 0 l (tab (length l) f) (sym (length-tab (length l) f)) (λ i h. sym (get_or-tab (length l) f i h))
+tab-get_or l = tab_of (length l) (λ i. get_or l i 0) l refl (λ i h. refl)
 
 -- what holds of 0 and of each f i holds of each element, and of what is read past the end
 pub all-tab : (P : ℕ → Type 0) (n : ℕ) (f : ℕ → ℕ) → P 0 → ((i : ℕ) → P (f i)) → (i : ℕ) → P (get_or (tab n f) i 0)

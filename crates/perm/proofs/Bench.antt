@@ -1,4 +1,4 @@
--- 01, Bench values: the cases of the shuffle that are proved, by computing the definitions.
+-- Cases of the shuffle, proved by computing the definitions.
 use mathlib.Core.Path.{◌≡◌, refl}
 use mathlib.Core.List.{[], ◌∷◌}
 use native.Mathlib.Omega.{arith}

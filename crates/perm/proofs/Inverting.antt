@@ -2,13 +2,11 @@
 use mathlib.Core.Path.{◌≡◌, refl, ◌∙◌, ap}
 use mathlib.Core.Bool.{Bool, true, false}
 use mathlib.Core.List.{List}
-use Prim.Native.Nat.{ℕ, ◌≤◌, ◌<◌}
-use native.Mathlib.Decide.{dec_lt}
-use native.Mathlib.Omega.{arith}
+use Prim.Native.Nat.{ℕ, ◌<◌}
 use lib.ListN.{length, get_or}
 use Rattle.bits.specs.Bits.{Decided}
 use Rattle.perm.specs.Perm.{Places, Inverse, Perm, Undoes, Inverts, inverted}
-use Rattle.perm.proofs.Permutations.{entries-distinct, undoes-inverse}
+use Rattle.perm.proofs.Permutations.{entries-distinct, entries-low, undoes-inverse}
 use Rattle.perm.proofs.Placing.{placed, length-placed, Last, last-placed}
 
 pub length-inverted : (p q : List ℕ) → length (inverted p q) ≡ length q
@@ -33,21 +31,8 @@ module _ (p q : List ℕ) (l : length q ≡ length p) (low : Places p) where
   inverts true q' e d = undoes-inverse p q' (ap length e ∙ length-inverted p q ∙ l) low d
   inverts false q' e d = λ perm. d (rw e (distinct-undoes (entries-distinct p perm)))
 
--- ---- why a list is no permutation
--- it is longer than its entries reach
-pub too_long : (p : List ℕ) → 65536 < length p → ((i : ℕ) → get_or p i 0 < 65536) → Perm p → ⊥
-too_long p h small (q, v) = omega (arith, small (get_or q 65536 0), v.back 65536 h)
-
-pub perm-short : (p : List ℕ) → ((i : ℕ) → get_or p i 0 < 65536) → Perm p → length p ≤ 65536
-perm-short p small perm = go (dec_lt 65536 (length p))
-  where
-    go : Dec (65536 < length p) → length p ≤ 65536
-    go (yes h) = absurd (too_long p h small perm)
-    go (no g) = omega arith
-
--- its entries are no places
-pub no-places : (p : List ℕ) → (Places p → ⊥) → Perm p → ⊥
-no-places p f (q, v) = f v.low
+-- for `using` at a function that inverts a permutation
+pub ruleset inverting = (inverted-inverse, entries-low)
 
 -- a list whose entries are places and distinct is a permutation
 pub distinct-perm : (p : List ℕ) → Places p → ((i j : ℕ) → i < length p → j < length p → get_or p i 0 ≡ get_or p j 0 → i ≡ j) → Perm p

@@ -10,7 +10,6 @@ use lib.ListN.{length, get_or}
 use Rattle.bits.specs.Bits.{Decided}
 use Rattle.perm.specs.Perm.{Places, Perm}
 use Rattle.perm.specs.Window.{slot_of, written, Kept, Once}
-use Rattle.perm.proofs.Permutations.{entries-distinct}
 use Rattle.perm.proofs.Placing.{placed, Last, last-placed}
 use Rattle.perm.proofs.Inverting.{distinct-perm}
 
@@ -58,15 +57,12 @@ once-kept b p q l one i h g =
     let e : get_or p j 0 ≡ get_or p i 0 = slot-one b (get_or p i 0) (get_or p j 0) g v.same in
     one j i v.below h (rw e (slot-window b (get_or p i 0) g)) e
 
-pub once-decided : (b : ℕ) (p q : List ℕ) → length q ≡ 4097 → (r : Bool) (q' : List ℕ) → q' ≡ written b p q → Decided r (Kept b p q') → Decided r (Once b p)
-once-decided b p q l true q' e d = kept-once b p q' d
-once-decided b p q l false q' e d = λ one. d (rw e (once-kept b p q l one))
+pub once_decided : (b : ℕ) (p q : List ℕ) → length q ≡ 4097 → (r : Bool) (q' : List ℕ) → q' ≡ written b p q → Decided r (Kept b p q') → Decided r (Once b p)
+once_decided b p q l true q' e d = kept-once b p q' d
+once_decided b p q l false q' e d = λ one. d (rw e (once-kept b p q l one))
 
 -- ---- all windows
-pub perm-once : (b : ℕ) (p : List ℕ) → Perm p → Once b p
-perm-once b p perm i j hi hj w e = entries-distinct p perm i j hi hj e
-
-pub once-perm : (p : List ℕ) → Places p → (n : ℕ) → length p ≤ 4096 * n → ((b : ℕ) → b < n → Once b p) → Perm p
-once-perm p low n h one =
+pub once_perm : (p : List ℕ) → Places p → (n : ℕ) → length p ≤ 4096 * n → ((b : ℕ) → b < n → Once b p) → Perm p
+once_perm p low n h one =
     distinct-perm p low
     λ i j hi hj e. one (get_or p i 0 / 4096) (omega (arith, low i hi)) i j hi hj refl e

@@ -1,4 +1,4 @@
--- 001, 7.8 permu_inv: permutations of 0, 1, .. and their inverses.
+-- Permutations of 0, 1, .. and their inverses (RLCE-KEM specification of September 14, 2017, section 7.8, permu_inv).
 use Rattle.std.specs.Prelude.{◌≡◌, Bool, true, false, List, ℕ, ◌<◌, length, get_or, set}
 use Rattle.lists.specs.Loops.{turns}
 

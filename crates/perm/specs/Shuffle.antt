@@ -1,4 +1,4 @@
--- 01, Key setup: Shuffle; 001, 7.8 getPermutation: a list of places, shuffled by swaps.
+-- A list of places, shuffled by swaps (RLCE-KEM specification of September 14, 2017, section 7.8, getPermutation).
 use Rattle.std.specs.Prelude.{List, ℕ, ◌+◌, ◌-◌, ◌%◌, get_or, set}
 use Rattle.lists.specs.Loops.{tab, turns}
 use Rattle.bits.specs.Numbers.{number16}

@@ -27,6 +27,7 @@ pub fn shuffle_call(bytes: &[u8], list: &mut [u16]) -> Result<(), Refused>
 }
 
 // The inverse of a permutation. Refused, with nothing written: the list is none, or the inverse is not as long.
+#[tactic(auto, using(crate::proofs::Inverting::inverting))]
 pub fn invert_call(list: &[u16], inverse: &mut [u16]) -> Result<(), Refused>
     ensures { Inverted list.now inverse.old result inverse.new }
 {

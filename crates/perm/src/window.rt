@@ -3,65 +3,42 @@ ghost use Rattle.std.specs.Prelude.{◌≡◌, ◌<◌, ◌≤◌, length, get_o
 ghost use Rattle.bits.specs.Bits.{Decided};
 ghost use Rattle.perm.specs.Window.{slot_of, written, Kept, Once};
 
-fn wide(x: u16) -> usize
-    ensures { result ≡ x }
-{
-    x as usize
-}
+// How many values a window has.
+pub const WINDOW: usize = 4096;
 
-// The slot of a value in window b; 4096 for a value of another window.
-fn slot(b: usize, v: usize) -> usize
-    ensures { (result ≡ slot_of b v) × (result ≤ 4096) }
+// The slot of a value in window b; WINDOW for a value of another window.
+fn slot(b: usize, v: u16) -> usize
+    ensures slot { result ≡ slot_of b v }
+    ensures low { result ≤ 4096 }
 {
-    if v / 4096 == b { v % 4096 } else { 4096 }
+    let v = usize::from(v);
+    if v / WINDOW == b { v % WINDOW } else { WINDOW }
 }
 
 // Each place is written to the slot of its entry.
+#[tactic(auto, using(lists::proofs::Loops::turning), unfolding(crate::specs::Window::written))]
 fn write_in(p: &[u16], b: usize, q: &mut [u16])
-    requires { (length q.old ≡ 4097) × (length p.now ≤ 65536) }
+    requires slots { length q.old ≡ 4097 }
+    requires short { length p.now ≤ 65536 }
     ensures { q.new ≡ written b p.now q.old }
 {
-    let mut i = 0;
-    while i < p.len() {
-        let k = slot(b, wide(p[i]));
-        q[k] = i as u16;
-        i += 1;
+    for (i, &x) in p.iter().enumerate() {
+        q[slot(b, x)] = i as u16;
     }
 }
 
-// Whether i stands in slot k, if k is one of the window.
-fn stands(q: &[u16], k: usize, i: usize) -> bool
-    requires { length q.now ≡ 4097 }
-    ensures { Decided result (k < 4096 → get_or q.now k 0 ≡ i) }
-{
-    if k < 4096 {
-        if wide(q[k]) != i {
-            return false;
-        }
-    }
-    true
-}
-
-// Whether each place still stands in the slot of its entry.
+// Whether each place whose entry is in the window still stands in the slot of that entry.
 fn kept(p: &[u16], b: usize, q: &[u16]) -> bool
     requires { length q.now ≡ 4097 }
     ensures { Decided result (Kept b p.now q.now) }
 {
-    let mut i = 0;
-    while i < p.len() {
-        let k = slot(b, wide(p[i]));
-        if !stands(q, k, i) {
+    for (i, &x) in p.iter().enumerate() {
+        let k = slot(b, x);
+        if k < WINDOW && usize::from(q[k]) != i {
             return false;
         }
-        i += 1;
     }
     true
-}
-
-fn room() -> [u16; 4097]
-    ensures { 4097 ≡ length result }
-{
-    [0; 4097]
 }
 
 // Whether each entry in window b stands once.
@@ -69,7 +46,7 @@ pub fn once_in(p: &[u16], b: usize) -> bool
     requires { length p.now ≤ 65536 }
     ensures { Decided result (Once b p.now) }
 {
-    let mut q = room();
+    let mut q = [0u16; WINDOW + 1];
     write_in(p, b, &mut q);
     kept(p, b, &q)
 }

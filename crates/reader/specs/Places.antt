@@ -1,4 +1,4 @@
--- 01, Field and bits: keys are read element after element by a reader that remembers its bytes and its bit place.
+-- Keys are read element after element by a reader that remembers its bytes and its bit place.
 use Rattle.std.specs.Prelude.{ℕ, zero, suc, ◌+◌, List, [], ◌∷◌}
 use Rattle.bits.specs.Bits.{bits_at}
 use Rattle.reader.specs.declared.Reader.{Reader}

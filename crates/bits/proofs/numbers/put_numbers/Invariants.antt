@@ -1,10 +1,6 @@
 -- The first i numbers are written, two bytes each.
-use Rattle.std.proofs.Common.{◌≡◌, ◌++◌, ◌≤◌, ◌-◌, ◌*◌, length, take, drop}
-use Rattle.bits.specs.Numbers.{bytes16}
+use Rattle.std.proofs.Common.{◌≡◌, ℕ, ◌+◌, ◌*◌, ◌/◌, ◌%◌, ◌<◌, get_or}
 use Rattle.bits.proofs.numbers.put_numbers.Given as goal
 
 abbrev pub invariant-loop-i : goal.invariant-loop-i
-invariant-loop-i l = (l.i ≤ length l.s) × (length l.out ≡ length l.initial.out) × (l.out ≡ bytes16 (take l.i l.s) ++ drop (2 * l.i) l.initial.out)
-
-abbrev pub decreases-loop-i : goal.decreases-loop-i
-decreases-loop-i l = length l.s - l.i
+invariant-loop-i l = ((k : ℕ) → k < l.i → get_or l.out (2 * k) 0 ≡ get_or l.s k 0 / 256 % 256) × ((k : ℕ) → k < l.i → get_or l.out (2 * k + 1) 0 ≡ get_or l.s k 0 % 256)

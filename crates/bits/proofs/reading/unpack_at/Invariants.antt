@@ -1,11 +1,7 @@
--- Before each turn 8 q + r is the place of the next element, and the first i elements are written. All places lie in the slice, so q does not wrap.
-use Rattle.std.proofs.Common.{◌≡◌, ◌++◌, ◌+◌, ◌*◌, ◌<◌, ◌≤◌, ◌-◌, length, drop}
+-- Before each turn the byte and the bit are the place of the next element, and the first i elements are written. All places lie in the slice, so the byte's number does not wrap.
+use Rattle.std.proofs.Common.{◌≡◌, ℕ, ◌+◌, ◌*◌, ◌<◌, get_or}
 use Rattle.bits.specs.Bits.{bits_at}
-use Rattle.lists.specs.Loops.{tab}
 use Rattle.bits.proofs.reading.unpack_at.Given as goal
 
 abbrev pub invariant-loop-i : goal.invariant-loop-i
-invariant-loop-i l = (l.i ≤ length l.initial.out) × (length l.out ≡ length l.initial.out) × (l.r < 8) × (8 * l.q + l.r ≡ l.place + l.m * l.i) × (l.out ≡ tab l.i (λ k. bits_at l.m l.s (l.place + l.m * k)) ++ drop l.i l.initial.out)
-
-abbrev pub decreases-loop-i : goal.decreases-loop-i
-decreases-loop-i l = length l.initial.out - l.i
+invariant-loop-i l = (l.bit < 8) × (8 * l.byte + l.bit ≡ l.place + l.m * l.i) × ((k : ℕ) → k < l.i → get_or l.out k 0 ≡ bits_at l.m l.s (l.place + l.m * k))

@@ -1,10 +1,7 @@
 -- After i turns q is what the definition has after i turns.
-use Rattle.std.proofs.Common.{◌≡◌, ◌≤◌, ◌-◌, length, get_or, set}
+use Rattle.std.proofs.Common.{◌≡◌, get_or, set}
 use Rattle.lists.specs.Loops.{turns}
 use Rattle.perm.proofs.inverse.write.Given as goal
 
 abbrev pub invariant-loop-i : goal.invariant-loop-i
-invariant-loop-i l = (l.i ≤ length l.p) × (length l.q ≡ length l.initial.q) × (l.q ≡ turns (λ k r. set r (get_or l.p k 0) k) l.i l.initial.q)
-
-abbrev pub decreases-loop-i : goal.decreases-loop-i
-decreases-loop-i l = length l.p - l.i
+invariant-loop-i l = l.q ≡ turns (λ k r. set r (get_or l.p k 0) k) l.i l.fn.q
