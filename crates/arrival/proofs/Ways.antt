@@ -1,13 +1,13 @@
 -- The way of a message, step by step.
-use mathlib.Core.Path.{◌≡◌, refl, sym, ap, subst, ◌∙◌}
-use mathlib.Core.Bool.{Bool, true, false, not, false≢true}
+use mathlib.Core.Path.{◌≡◌, sym, ap, subst, ◌∙◌}
 use mathlib.Core.List.{List}
 use Prim.Native.Nat.{ℕ, ◌≤◌}
 use native.Mathlib.Omega.{arith}
 use lib.Pow.{pow_pos}
 use lib.ListN.{length, length-replicate, get_or-eq_default}
-use Rattle.scheme.specs.declared.Answer.{Answer}
-use Rattle.scheme.specs.declared.Answer.TheVariants.{Done, UnknownSet, WrongLength, FewMultipliers, FewElements, NoWindow, Dependent, Malformed, Singular, ZeroValues, NotOpened, WrongSecret}
+use Rattle.std.specs.Prelude.{Ok, Err}
+use Rattle.scheme.specs.declared.Refusal.{Refusal}
+use Rattle.scheme.specs.Answers.{Answer, Opened as Disclosed}
 use Rattle.scheme.specs.Calls.{zeroed, SetupEnd, SealEnd, setup_ends, seal_ends, wrap_ends, OpenEnds, UnwrapEnds}
 use Rattle.calls.specs.Ends.{setup_end, seal_end}
 use Rattle.demands.specs.Demand1.{Area}
@@ -15,67 +15,56 @@ use Rattle.demands.proofs.Ending.{demand1}
 use Rattle.demands.proofs.Arriving.{sealed-arrives, wrapped-arrives}
 use Rattle.arrival.specs.declared.Way.{Way}
 use Rattle.arrival.specs.declared.Way.TheVariants.{NotMade, NotSealed, Opened}
-use borrow.Author.Tests.{not-true, not-false}
-use Rattle.arrival.specs.Arrives.{Bytes, done_of, Then, stays, goes, unmade, unsealed, arrived, SealedThen, WrappedThen, SealedWay, WrappedWay}
+use Rattle.arrival.specs.Arrives.{Bytes, Then, stays, goes, unmade, unsealed, arrived, SealedThen, WrappedThen, SealedWay, WrappedWay}
 
 -- ---- bytes
 pub small-empty : (l : List ℕ) → length l ≡ 0 → Bytes l
 small-empty l e = record { small = λ j. rw (get_or-eq_default l 0 (let q : length l ≤ j = omega arith in q)) (pow_pos 8) }
 
--- ---- answers
-pub count_of : (a : Answer) → done_of a ≡ true → (c : ℕ) × (a ≡ Done c)
-count_of (Done count) e = (count, refl)
-count_of UnknownSet e = absurd (false≢true e)
-count_of WrongLength e = absurd (false≢true e)
-count_of FewMultipliers e = absurd (false≢true e)
-count_of FewElements e = absurd (false≢true e)
-count_of NoWindow e = absurd (false≢true e)
-count_of Dependent e = absurd (false≢true e)
-count_of Malformed e = absurd (false≢true e)
-count_of Singular e = absurd (false≢true e)
-count_of ZeroValues e = absurd (false≢true e)
-count_of NotOpened e = absurd (false≢true e)
-count_of WrongSecret e = absurd (false≢true e)
-
--- the work area of a sealing that is done
-area-done : (a : Answer) (c : ℕ) → a ≡ Done c → (l l' : List ℕ) → Area a l l' → length l' ≡ length l
+-- the work area of a call that is done
+area-done : (a : Answer) (c : ℕ) → a ≡ Ok c → (l l' : List ℕ) → Area a l l' → length l' ≡ length l
 area-done a c e l l' h =
     let z : l' ≡ zeroed l = subst (λ (x : Answer). Area x l l') e h in
     ap length z ∙ length-replicate {A = ℕ} (length l) 0
 
 -- ---- with keys
-module _ (public private random msg cipher room work : List ℕ) (a : Answer) (c w : List ℕ) (t : Bool) (is : t ≡ done_of a) where
-  pub not-sealed : seal_end a c w ≡ seal_ends public random msg cipher work → not t ≡ true → (after : List ℕ) → SealedThen public private random msg cipher room work (NotSealed a) after
-  not-sealed e d after = stays (ap (λ (x : SealEnd). x.answer) e) (sym is ∙ not-true t d)
+module _ (public private random msg cipher room work : List ℕ) (a : Answer) (c w : List ℕ) where
+  answer-of : (x : SealEnd) → seal_end a c w ≡ x → x.answer ≡ a
+  answer-of x e = ap (λ (x : SealEnd). x.answer) (sym e)
 
-  pub then-opened : seal_end a c w ≡ seal_ends public random msg cipher work → not t ≡ false
-      → (r : Answer) (after work' : List ℕ) → OpenEnds private c room w r after work' → SealedThen public private random msg cipher room work (Opened r) after
-  then-opened e d r after work' o =
-      subst (λ (x : SealEnd). Then x (λ c w r after work'. OpenEnds private c room w r after work') (Opened r) after) e (goes (sym is ∙ not-false t d) o)
+  pub not-sealed : seal_end a c w ≡ seal_ends public random msg cipher work → (r : Refusal) → a ≡ Err r → (after : List ℕ) → SealedThen public private random msg cipher room work (NotSealed r) after
+  not-sealed e r q after = stays (answer-of _ e ∙ q)
 
-  pub not-wrapped : seal_end a c w ≡ wrap_ends public random msg cipher work → not t ≡ true → (after : List ℕ) → WrappedThen public private random msg cipher room work (NotSealed a) after
-  not-wrapped e d after = stays (ap (λ (x : SealEnd). x.answer) e) (sym is ∙ not-true t d)
+  pub then-opened : seal_end a c w ≡ seal_ends public random msg cipher work → (b : ℕ) → a ≡ Ok b
+      → (r : Disclosed) (after work' : List ℕ) → OpenEnds private c room w r after work' → SealedThen public private random msg cipher room work (Opened r) after
+  then-opened e b q r after work' o =
+      subst (λ (x : SealEnd). Then x (λ c w r after work'. OpenEnds private c room w r after work') (Opened r) after) e (goes q o)
 
-  pub then-unwrapped : seal_end a c w ≡ wrap_ends public random msg cipher work → not t ≡ false
-      → (r : Answer) (after work' : List ℕ) → UnwrapEnds private c room w r after work' → WrappedThen public private random msg cipher room work (Opened r) after
-  then-unwrapped e d r after work' o =
-      subst (λ (x : SealEnd). Then x (λ c w r after work'. UnwrapEnds private c room w r after work') (Opened r) after) e (goes (sym is ∙ not-false t d) o)
+  pub not-wrapped : seal_end a c w ≡ wrap_ends public random msg cipher work → (r : Refusal) → a ≡ Err r → (after : List ℕ) → WrappedThen public private random msg cipher room work (NotSealed r) after
+  not-wrapped e r q after = stays (answer-of _ e ∙ q)
+
+  pub then-unwrapped : seal_end a c w ≡ wrap_ends public random msg cipher work → (b : ℕ) → a ≡ Ok b
+      → (r : Disclosed) (after work' : List ℕ) → UnwrapEnds private c room w r after work' → WrappedThen public private random msg cipher room work (Opened r) after
+  then-unwrapped e b q r after work' o =
+      subst (λ (x : SealEnd). Then x (λ c w r after work'. UnwrapEnds private c room w r after work') (Opened r) after) e (goes q o)
 
 -- ---- the whole way
-module _ (byte : ℕ) (first random msg public private cipher room work : List ℕ) (a : Answer) (p q w : List ℕ) (e : setup_end a p q w ≡ setup_ends byte first public private work)
-    (t : Bool) (is : t ≡ done_of a) where
-  pub way-unmade : not t ≡ true → (after : List ℕ) → SealedWay byte first random msg public private cipher room work (NotMade a) after
-  way-unmade d after = unmade (ap (λ (x : SetupEnd). x.answer) e) (sym is ∙ not-true t d)
+module _ (byte : ℕ) (first random msg public private cipher room work : List ℕ) (a : Answer) (p q w : List ℕ) (e : setup_end a p q w ≡ setup_ends byte first public private work) where
+  abbrev made : SetupEnd
+  made = setup_ends byte first public private work
 
-  pub way-unwrapped : not t ≡ true → (after : List ℕ) → WrappedWay byte first random msg public private cipher room work (NotMade a) after
-  way-unwrapped d after = unmade (ap (λ (x : SetupEnd). x.answer) e) (sym is ∙ not-true t d)
+  answered : made.answer ≡ a
+  answered = ap (λ (x : SetupEnd). x.answer) (sym e)
 
-  module _ (d : not t ≡ false) (kept : length w ≡ length work) (of-first : Bytes first) (of-random : Bytes random) (of-msg : Bytes msg) where
-    abbrev made : SetupEnd
-    made = setup_ends byte first public private work
+  pub way-unmade : (r : Refusal) → a ≡ Err r → (after : List ℕ) → SealedWay byte first random msg public private cipher room work (NotMade r) after
+  way-unmade r d after = unmade (answered ∙ d)
 
-    done : done_of made.answer ≡ true
-    done = ap (λ (x : SetupEnd). done_of x.answer) (sym e) ∙ sym is ∙ not-false t d
+  pub way-unwrapped : (r : Refusal) → a ≡ Err r → (after : List ℕ) → WrappedWay byte first random msg public private cipher room work (NotMade r) after
+  way-unwrapped r d after = unmade (answered ∙ d)
+
+  module _ (m : ℕ) (d : a ≡ Ok m) (kept : length w ≡ length work) (of-first : Bytes first) (of-random : Bytes random) (of-msg : Bytes msg) where
+    done : made.answer ≡ Ok m
+    done = answered ∙ d
 
     area : length made.work ≡ length work
     area = ap (λ (x : SetupEnd). length x.work) (sym e) ∙ kept
@@ -88,13 +77,11 @@ module _ (byte : ℕ) (first random msg public private cipher room work : List �
 
     from-sealed : (r : Way) (after : List ℕ) → Then sealed (λ c w r after work'. OpenEnds made.private c room w r after work') r after
         → SealedWay byte first random msg public private cipher room work r after
-    from-sealed r after (stays g f) = unsealed done g f
-    from-sealed r after (goes {r = x} {after = y} {work' = z} f o) =
-        let m = count_of made.answer done in
-        let n = count_of sealed.answer f in
+    from-sealed r after (stays f) = unsealed done f
+    from-sealed r after (goes {b = n} {r = x} {after = y} {work' = z} f o) =
         arrived done f
-        (λ long. sealed-arrives byte first public private work m.0 of-first.small m.1 random msg cipher made.work n.0 of-random.small of-msg.small n.1 room sealed.work y z x long
-        (area-done sealed.answer n.0 n.1 made.work sealed.work (demand1.every_seal made.public random msg cipher made.work).1 ∙ area) o)
+        (λ long. sealed-arrives byte first public private work m of-first.small done random msg cipher made.work n of-random.small of-msg.small f room sealed.work y z x long
+        (area-done sealed.answer n f made.work sealed.work (demand1.every_seal made.public random msg cipher made.work).1 ∙ area) o)
 
     pub way-sealed : (r : Way) (after : List ℕ) → SealedThen p q random msg cipher room w r after → SealedWay byte first random msg public private cipher room work r after
     way-sealed r after s =
@@ -103,13 +90,11 @@ module _ (byte : ℕ) (first random msg public private cipher room work : List �
 
     from-wrapped : (r : Way) (after : List ℕ) → Then wrapped (λ c w r after work'. UnwrapEnds made.private c room w r after work') r after
         → WrappedWay byte first random msg public private cipher room work r after
-    from-wrapped r after (stays g f) = unsealed done g f
-    from-wrapped r after (goes {r = x} {after = y} {work' = z} f o) =
-        let m = count_of made.answer done in
-        let n = count_of wrapped.answer f in
+    from-wrapped r after (stays f) = unsealed done f
+    from-wrapped r after (goes {b = n} {r = x} {after = y} {work' = z} f o) =
         arrived done f
-        (λ long. wrapped-arrives byte first public private work m.0 of-first.small m.1 random msg cipher made.work n.0 of-random.small of-msg.small n.1 room wrapped.work y z x long
-        (area-done wrapped.answer n.0 n.1 made.work wrapped.work (demand1.every_wrap made.public random msg cipher made.work).1 ∙ area) o)
+        (λ long. wrapped-arrives byte first public private work m of-first.small done random msg cipher made.work n of-random.small of-msg.small f room wrapped.work y z x long
+        (area-done wrapped.answer n f made.work wrapped.work (demand1.every_wrap made.public random msg cipher made.work).1 ∙ area) o)
 
     pub way-wrapped : (r : Way) (after : List ℕ) → WrappedThen p q random msg cipher room w r after → WrappedWay byte first random msg public private cipher room work r after
     way-wrapped r after s =

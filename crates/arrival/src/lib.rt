@@ -1,40 +1,20 @@
-// The way of a message, call after call: what demand 3 says of the calls' promises is here the contract of code that makes the calls.
+// The way of a message, call after call: what is proved of the calls' promises together is here the contract of code that makes the calls.
 #![tactic(auto)]
 
 ghost use Rattle.std.specs.Prelude.{◌≡◌};
-ghost use Rattle.arrival.specs.Arrives.{Bytes, done_of, SealedThen, WrappedThen, SealedWay, WrappedWay};
+ghost use Rattle.arrival.specs.Arrives.{Bytes, SealedThen, WrappedThen, SealedWay, WrappedWay};
 
 use calls::closing::{seal, wrap};
 use calls::disclosing::{open, unwrap};
 use calls::founding::setup;
-use scheme::Answer;
+use scheme::Refusal;
 
-// How far a message came: no pair was made, it was not sealed, or it was opened, with the answer of the call that ended it.
-#[derive(Clone, Copy)]
+/// How far a message came: no pair was made, it was not sealed, or it was opened, each with what the call that ended it answered.
+#[derive(Clone, Copy, Debug, PartialEq, Eq)]
 pub enum Way {
-    NotMade(Answer),
-    NotSealed(Answer),
-    Opened(Answer),
-}
-
-// Whether a call was done.
-fn is_done(a: Answer) -> bool
-    ensures { result ≡ done_of a }
-{
-    match a {
-        Answer::Done(count) => true,
-        Answer::UnknownSet => false,
-        Answer::WrongLength => false,
-        Answer::FewMultipliers => false,
-        Answer::FewElements => false,
-        Answer::NoWindow => false,
-        Answer::Dependent => false,
-        Answer::Malformed => false,
-        Answer::Singular => false,
-        Answer::ZeroValues => false,
-        Answer::NotOpened => false,
-        Answer::WrongSecret => false,
-    }
+    NotMade(Refusal),
+    NotSealed(Refusal),
+    Opened(Result<(), Refusal>),
 }
 
 // What is lent as bytes is below 256: a fact for proofs, and the first byte of it.
@@ -59,12 +39,10 @@ fn seal_then_open(
 ) -> Way
     ensures { SealedThen public.now private.now random.now message.now cipher.old opened.old work.old result opened.new }
 {
-    let sealed = seal(public, random, message, cipher, work);
-    if !is_done(sealed) {
-        return Way::NotSealed(sealed);
+    match seal(public, random, message, cipher, work) {
+        Err(refusal) => Way::NotSealed(refusal),
+        Ok(_) => Way::Opened(open(private, cipher, opened, work)),
     }
-    let answer = open(private, cipher, opened, work);
-    Way::Opened(answer)
 }
 
 // Wraps the secret and unwraps what was wrapped.
@@ -79,12 +57,10 @@ fn wrap_then_unwrap(
 ) -> Way
     ensures { WrappedThen public.now private.now random.now secret.now cipher.old unwrapped.old work.old result unwrapped.new }
 {
-    let wrapped = wrap(public, random, secret, cipher, work);
-    if !is_done(wrapped) {
-        return Way::NotSealed(wrapped);
+    match wrap(public, random, secret, cipher, work) {
+        Err(refusal) => Way::NotSealed(refusal),
+        Ok(_) => Way::Opened(unwrap(private, cipher, unwrapped, work)),
     }
-    let answer = unwrap(private, cipher, unwrapped, work);
-    Way::Opened(answer)
 }
 
 // Sets up a pair, seals the message and opens what was sealed. The message arrives: where the first two calls are done and the room for it
@@ -102,14 +78,13 @@ pub fn seal_and_open(
 ) -> Way
     ensures { SealedWay byte first.now random.now message.now public.old private.old cipher.old opened.old work.old result opened.new }
 {
-    let made = setup(byte, first, public, private, work);
-    if !is_done(made) {
-        return Way::NotMade(made);
-    }
     know_bytes(first);
     know_bytes(random);
     know_bytes(message);
-    seal_then_open(public, private, random, message, cipher, opened, work)
+    match setup(byte, first, public, private, work) {
+        Err(refusal) => Way::NotMade(refusal),
+        Ok(_) => seal_then_open(public, private, random, message, cipher, opened, work),
+    }
 }
 
 // The same of a secret: it is wrapped, and unwrapped to as many bytes.
@@ -126,12 +101,11 @@ pub fn wrap_and_unwrap(
 ) -> Way
     ensures { WrappedWay byte first.now random.now secret.now public.old private.old cipher.old unwrapped.old work.old result unwrapped.new }
 {
-    let made = setup(byte, first, public, private, work);
-    if !is_done(made) {
-        return Way::NotMade(made);
-    }
     know_bytes(first);
     know_bytes(random);
     know_bytes(secret);
-    wrap_then_unwrap(public, private, random, secret, cipher, unwrapped, work)
+    match setup(byte, first, public, private, work) {
+        Err(refusal) => Way::NotMade(refusal),
+        Ok(_) => wrap_then_unwrap(public, private, random, secret, cipher, unwrapped, work),
+    }
 }

@@ -7,7 +7,7 @@
 
 ghost use Rattle.std.specs.Prelude.{◌≡◌, ◌<◌, length};
 
-use scheme::Answer;
+use scheme::Refusal;
 
 // The number of standard input.
 const STDIN: i32 = 0;
@@ -146,16 +146,19 @@ fn print_work(s: &[u16]) {
     vectors::text(b"neither\n");
 }
 
-fn print_answer(expected: u8, answer: Answer) {
+fn print_answer(expected: u8, answer: Result<usize, Refusal>) {
     vectors::text(b": expected ");
-    io::print_decimal(STDOUT, expected as u64);
+    io::print_decimal(STDOUT, u64::from(expected));
     vectors::text(b", got ");
-    io::print_decimal(STDOUT, files::number(answer));
-    let Answer::Done(count) = answer else {
-        return;
-    };
-    vectors::text(b" count ");
-    io::print_decimal(STDOUT, count as u64);
+    match answer {
+        Ok(count) => {
+            vectors::text(b"0 count ");
+            io::print_decimal(STDOUT, count as u64);
+        }
+        Err(refusal) => {
+            io::print_decimal(STDOUT, u64::from(u8::from(refusal)));
+        }
+    }
 }
 
 fn call(
@@ -166,7 +169,7 @@ fn call(
     out: &mut [u8],
     other: &mut [u8],
     work: &mut [u16],
-) -> Answer {
+) -> Result<usize, Refusal> {
     let which = c.call;
     if which == 0 {
         return calls::founding::setup(c.byte, first, out, other, work);
@@ -178,9 +181,9 @@ fn call(
         return calls::closing::wrap(first, second, third, out, work);
     }
     if which == 3 {
-        return calls::disclosing::open(first, second, out, work);
+        return calls::disclosing::open(first, second, out, work).map(|()| 0);
     }
-    calls::disclosing::unwrap(first, second, out, work)
+    calls::disclosing::unwrap(first, second, out, work).map(|()| 0)
 }
 
 fn show(

@@ -11,7 +11,7 @@ mod seeded;
 
 ghost use Rattle.std.specs.Prelude.{◌≡◌, ◌+◌, ◌<◌, ◌≤◌, length};
 
-use scheme::Answer;
+use scheme::Refusal;
 
 // The number of standard input.
 const STDIN: i32 = 0;
@@ -102,7 +102,7 @@ fn call(
     p: &mut [u8],
     q: &mut [u8],
     work: &mut [u16],
-) -> Answer {
+) -> Result<usize, Refusal> {
     if verb == 0 {
         return calls::founding::setup(set, x, p, q, work);
     }
@@ -110,13 +110,13 @@ fn call(
         return calls::closing::seal(x, y, z, p, work);
     }
     if verb == 2 {
-        return calls::disclosing::open(x, y, p, work);
+        return calls::disclosing::open(x, y, p, work).map(|()| 0);
     }
     if verb == 3 {
         return calls::closing::wrap(x, y, z, p, work);
     }
     if verb == 4 {
-        return calls::disclosing::unwrap(x, y, p, work);
+        return calls::disclosing::unwrap(x, y, p, work).map(|()| 0);
     }
     seeded::way(x, y, z, p)
 }
@@ -130,7 +130,7 @@ fn call_written(
     p: &mut [u8],
     q: &mut [u8],
     work: &mut [u16],
-) -> Answer
+) -> Result<usize, Refusal>
     requires head_long { 17 ≤ length head.now }
     requires outputs { (65536 ≤ length p.old) × (65536 ≤ length q.old) × (65536 ≤ length work.old) }
 {
@@ -158,7 +158,7 @@ fn call_cut(
     p: &mut [u8],
     q: &mut [u8],
     work: &mut [u16],
-) -> Answer
+) -> Result<usize, Refusal>
     requires head_long { 17 ≤ length head.now }
     requires inputs { (65536 ≤ length x.now) × (65536 ≤ length y.now) × (65536 ≤ length z.now) }
     requires outputs { (65536 ≤ length p.old) × (65536 ≤ length q.old) × (65536 ≤ length work.old) }
@@ -205,7 +205,7 @@ fn work_is(head: &[u8], work: &[u16]) -> bool
 }
 
 // Whether the answer is as it must be.
-fn answer_is(head: &[u8], a: Answer) -> bool
+fn answer_is(head: &[u8], a: Result<usize, Refusal>) -> bool
     requires { 17 ≤ length head.now }
 {
     if seeded::number(a) != head[2] {
@@ -215,7 +215,14 @@ fn answer_is(head: &[u8], a: Answer) -> bool
 }
 
 // Whether all is as it must be after a call; both outputs are read in any case.
-fn judge(head: &[u8], a: Answer, expected: &mut [u8], p: &[u8], q: &[u8], work: &[u16]) -> bool
+fn judge(
+    head: &[u8],
+    a: Result<usize, Refusal>,
+    expected: &mut [u8],
+    p: &[u8],
+    q: &[u8],
+    work: &[u16],
+) -> bool
     requires head_long { 17 ≤ length head.now }
     requires outputs { (65536 ≤ length p.now) × (65536 ≤ length q.now) × (65536 ≤ length work.now) × (65536 ≤ length expected.old) }
 {

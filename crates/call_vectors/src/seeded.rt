@@ -1,35 +1,22 @@
 // The whole way in set 1 from three seeds: the masks of the seeds are the random bytes of setup, the message and the random blocks.
-ghost use Rattle.std.specs.Prelude.{◌≡◌, ◌<◌, ◌≤◌, length};
+ghost use Rattle.std.specs.Prelude.{◌≡◌, ◌<◌, ◌≤◌, length, IfOk, IfErr};
 ghost use Rattle.scheme.specs.Answers.{number_of};
 
-use scheme::Answer;
+use scheme::Refusal;
 
-// The number of an answer.
-pub fn number(a: Answer) -> u8
-    ensures { result ≡ number_of a }
+/// The number of an answer, 0 if it is done.
+pub fn number(answer: Result<usize, Refusal>) -> u8
+    ensures { IfOk answer (λ n. result ≡ 0) × IfErr answer (λ e. result ≡ number_of e) }
 {
-    match a {
-        Answer::Done(_) => 0,
-        Answer::UnknownSet => 1,
-        Answer::WrongLength => 2,
-        Answer::FewMultipliers => 3,
-        Answer::FewElements => 4,
-        Answer::NoWindow => 5,
-        Answer::Dependent => 6,
-        Answer::Malformed => 7,
-        Answer::Singular => 8,
-        Answer::ZeroValues => 9,
-        Answer::NotOpened => 10,
-        Answer::WrongSecret => 11,
+    match answer {
+        Ok(_) => 0,
+        Err(refusal) => u8::from(refusal),
     }
 }
 
-// The count of an answer.
-pub fn count(a: Answer) -> u8 {
-    let Answer::Done(count) = a else {
-        return 0;
-    };
-    (count % 256) as u8
+/// The count of an answer, 0 if it is refused.
+pub fn count(answer: Result<usize, Refusal>) -> u8 {
+    answer.map_or(0, |count| (count % 256) as u8)
 }
 
 // Room for the random bytes of a setup and of a sealing, for the keys and for the work area of set 1.
@@ -64,14 +51,25 @@ fn work_room() -> [u16; 1336384]
 }
 
 // A key pair from the mask of a seed.
-fn found(seed: &[u8], public: &mut [u8], private: &mut [u8], work: &mut [u16]) -> Answer {
+fn found(
+    seed: &[u8],
+    public: &mut [u8],
+    private: &mut [u8],
+    work: &mut [u16],
+) -> Result<usize, Refusal> {
     let mut random = random_room();
     let _ = hash::calls::mask(seed, &mut random);
     calls::founding::setup(0x11, &random, public, private, work)
 }
 
 // A ciphertext of the mask of a seed, with the mask of another as random blocks.
-fn close(text: &[u8], seed: &[u8], public: &[u8], cipher: &mut [u8], work: &mut [u16]) -> Answer {
+fn close(
+    text: &[u8],
+    seed: &[u8],
+    public: &[u8],
+    cipher: &mut [u8],
+    work: &mut [u16],
+) -> Result<usize, Refusal> {
     let mut message = [0u8; 504];
     let mut blocks = blocks_room();
     let _ = hash::calls::mask(text, &mut message);
@@ -96,7 +94,12 @@ fn put(out: &mut [u8], i: usize, v: u8)
 }
 
 // Then the numbers of the three answers, and the counts of the first two.
-fn answers(founded: Answer, closed: Answer, opened: Answer, out: &mut [u8])
+fn answers(
+    founded: Result<usize, Refusal>,
+    closed: Result<usize, Refusal>,
+    opened: Result<usize, Refusal>,
+    out: &mut [u8],
+)
     requires { 261 ≤ length out.old }
 {
     put(out, 256, number(founded));
@@ -112,9 +115,9 @@ fn tell(
     private: &[u8],
     cipher: &[u8],
     message: &[u8],
-    founded: Answer,
-    closed: Answer,
-    opened: Answer,
+    founded: Result<usize, Refusal>,
+    closed: Result<usize, Refusal>,
+    opened: Result<usize, Refusal>,
     out: &mut [u8],
 )
     requires { 261 ≤ length out.old }
@@ -139,20 +142,20 @@ fn walk(
     let mut message = [0u8; 504];
     let founded = found(x, public, private, work);
     let closed = close(y, z, public, &mut cipher, work);
-    let opened = calls::disclosing::open(private, &cipher, &mut message, work);
+    let opened = calls::disclosing::open(private, &cipher, &mut message, work).map(|()| 0);
     tell(
         public, private, &cipher, &message, founded, closed, opened, out,
     );
 }
 
 // Digests of public key, private key, ciphertext and opened message, and the answers, if the output has room for just these.
-pub fn way(x: &[u8], y: &[u8], z: &[u8], out: &mut [u8]) -> Answer {
+pub fn way(x: &[u8], y: &[u8], z: &[u8], out: &mut [u8]) -> Result<usize, Refusal> {
     if out.len() != 261 {
-        return Answer::WrongLength;
+        return Err(Refusal::WrongLength);
     }
     let mut public = public_room();
     let mut private = private_room();
     let mut work = work_room();
     walk(x, y, z, &mut public, &mut private, &mut work, out);
-    Answer::Done(0)
+    Ok(0)
 }

@@ -1,4 +1,4 @@
--- The count of every answer is small: at most 5 windows of a setup, at most 16 blocks of a sealing, 0 of an opening.
+-- The count of every answer is small: at most 5 windows of a setup, at most 16 blocks of a sealing.
 use mathlib.Core.Path.{◌≡◌, refl, ap}
 use mathlib.Core.Bool.{Bool, true, false, ◌&&◌}
 use mathlib.Core.List.{List, [], ◌∷◌}
@@ -9,25 +9,24 @@ use lib.ListN.{length}
 use borrow.Author.Tests.{ltb-true, leb-true}
 use Rattle.lists.specs.Loops.{pick}
 use Rattle.sets.specs.declared.Set.{Set}
-use Rattle.std.specs.Prelude.{Option, Some, None}
+use Rattle.std.specs.Prelude.{Option, Some, None, Ok, Err}
 use Rattle.sets.specs.Table.{set_of}
-use Rattle.scheme.specs.declared.Answer.{Answer}
-use Rattle.scheme.specs.declared.Answer.TheVariants.{Done, UnknownSet, WrongLength, FewMultipliers, FewElements, NoWindow, Dependent, Malformed, Singular, ZeroValues, NotOpened, WrongSecret}
-use Rattle.scheme.specs.Answers.{count_of}
+use Rattle.scheme.specs.declared.Refusal.{Refusal}
+use Rattle.scheme.specs.declared.Refusal.TheVariants.{WrongLength, NoWindow, ZeroValues, WrongSecret}
+use Rattle.scheme.specs.Answers.{Answer, count_of}
 use Rattle.scheme.specs.Field.{field_of}
 use Rattle.scheme.specs.Matrices.{listed}
 use Rattle.linear.specs.Elimination.{eliminated}
 use Rattle.scheme.specs.Setup.{Made, made, fails, Found, found, none, usable, permutation2, window, chain, reduced_pair, with_blocks, setup}
 use Rattle.scheme.specs.Sealing.{first_fitting, sealed_by, secret_message}
-use Rattle.scheme.specs.Opening.{Opens}
-use Rattle.scheme.specs.Calls.{zeroed, SetupEnd, setup_lengths, after_setup, setup_of, setup_ends, SealEnd, seal_lengths, after_seal, seal_of, seal_ends, wrap_of, wrap_ends, OpenCase, Untouched, Opening, open_lengths, OpenChecked, OpenOf, OpenEnds, GivesSecret, UnwrapSized, UnwrapChecked, UnwrapOf, UnwrapEnds}
+use Rattle.scheme.specs.Calls.{zeroed, SetupEnd, setup_lengths, after_setup, setup_of, setup_ends, SealEnd, seal_lengths, after_seal, seal_of, seal_ends, wrap_of, wrap_ends}
 use Rattle.calls.specs.Ends.{setup_end, seal_end}
 use Rattle.calls.proofs.Rows.{both}
 
 -- ---- setup
 data Few : Made → Type 0 where
   few_made : {p q : List ℕ} {count : ℕ} → count ≤ 5 → Few (made p q count)
-  few_fails : {a : Answer} → count_of a ≤ 5 → Few (fails a)
+  few_fails : {a : Refusal} → Few (fails a)
 
 few-pick : (t : Bool) (x y : Made) → Few x → Few y → Few (pick t x y)
 few-pick true x y h g = h
@@ -42,32 +41,31 @@ module _ (s : Set) (random : List ℕ) where
   unfolding reduced_pair
   reduced-few A p h =
       let n : p + 1 ≤ 5 = omega arith in
-      let z : count_of Dependent ≤ 5 = omega arith in
-      few-pick (ltb (columns A p) s.k) _ _ (few_fails z) (few_made n)
+      few-pick (ltb (columns A p) s.k) _ _ few_fails (few_made n)
 
   blocks-few : (f : Found) → Few (with_blocks s random f)
   unfolding with_blocks
-  blocks-few none = few_fails {a = FewElements} (omega arith)
+  blocks-few none = few_fails
   blocks-few (found A) = go (ltb (window s random) 5) refl
     where
       go : (t : Bool) → ltb (window s random) 5 ≡ t → Few (pick t (reduced_pair s random A (window s random)) (fails NoWindow))
       go true e = reduced-few A (window s random) (ltb-true _ _ e)
-      go false e = few_fails {a = NoWindow} (omega arith)
+      go false e = few_fails
 
   setup-few : Few (setup s random)
   unfolding setup
-  setup-few = few-pick (ltb (length (usable s random)) s.n) _ _ (few_fails {a = FewMultipliers} (omega arith)) (blocks-few _)
+  setup-few = few-pick (ltb (length (usable s random)) s.n) _ _ few_fails (blocks-few _)
 
 module _ (random public private work : List ℕ) where
   after-few : (m : Made) → Few m → count_of (after_setup m public private work).answer ≤ 5
   after-few (made p q count) (few_made h) = h
-  after-few (fails a) (few_fails h) = h
+  after-few (fails a) few_fails = omega arith
 
   setup-of-few : (n : Option Set) → count_of (setup_of n random public private work).answer ≤ 5
   setup-of-few None = omega arith
   setup-of-few (Some s) = go (setup_lengths s (length random) (length public) (length private) (length work))
     where
-      go : (t : Bool) → count_of (pick t (after_setup (setup s random) public private work) (setup_end WrongLength public private work)).answer ≤ 5
+      go : (t : Bool) → count_of (pick t (after_setup (setup s random) public private work) (setup_end (Err WrongLength) public private work)).answer ≤ 5
       go true = after-few (setup s random) (setup-few s random)
       go false = omega arith
 
@@ -83,7 +81,7 @@ module _ (s : Set) (key random msg cipher work : List ℕ) where
   unfolding after_seal
   after-seal-few h = go (ltb (first_fitting s msg random) (length random / s.block)) refl
     where
-      go : (t : Bool) → ltb (first_fitting s msg random) (length random / s.block) ≡ t → count_of (pick t (seal_end (Done (first_fitting s msg random)) (sealed_by s key msg random (first_fitting s msg random)) (zeroed work)) (seal_end ZeroValues (zeroed cipher) (zeroed work))).answer ≤ 16
+      go : (t : Bool) → ltb (first_fitting s msg random) (length random / s.block) ≡ t → count_of (pick t (seal_end (Ok (first_fitting s msg random)) (sealed_by s key msg random (first_fitting s msg random)) (zeroed work)) (seal_end (Err ZeroValues) (zeroed cipher) (zeroed work))).answer ≤ 16
       go true e = omega (arith, ltb-true (first_fitting s msg random) (length random / s.block) e)
       go false e = omega arith
 
@@ -101,7 +99,7 @@ module _ (random msg cipher work : List ℕ) where
   seal-of-few (Some s) key = go (seal_lengths s (length key) (length random) (length cipher) (length work) && eqb (length msg) s.k1) refl
     where
       go : (t : Bool) → seal_lengths s (length key) (length random) (length cipher) (length work) && eqb (length msg) s.k1 ≡ t
-          → count_of (pick t (after_seal s key random msg cipher work) (seal_end WrongLength cipher work)).answer ≤ 16
+          → count_of (pick t (after_seal s key random msg cipher work) (seal_end (Err WrongLength) cipher work)).answer ≤ 16
       go true e =
           after-seal-few s key random msg cipher work
           (few-blocks s (length key) (length random) (length cipher) (length work) (both (seal_lengths s (length key) (length random) (length cipher) (length work)) _ e).0)
@@ -112,7 +110,7 @@ module _ (random msg cipher work : List ℕ) where
   wrap-of-few (Some s) key = go (seal_lengths s (length key) (length random) (length cipher) (length work)) (leb 1 (length msg) && leb (length msg) s.k1) refl
     where
       go : (t u : Bool) → seal_lengths s (length key) (length random) (length cipher) (length work) ≡ t
-          → count_of (pick t (pick u (after_seal s key random (secret_message s msg) cipher work) (seal_end WrongSecret cipher work)) (seal_end WrongLength cipher work)).answer ≤ 16
+          → count_of (pick t (pick u (after_seal s key random (secret_message s msg) cipher work) (seal_end (Err WrongSecret) cipher work)) (seal_end (Err WrongLength) cipher work)).answer ≤ 16
       go true true e = after-seal-few s key random (secret_message s msg) cipher work (few-blocks s (length key) (length random) (length cipher) (length work) e)
       go true false e = omega arith
       go false u e = omega arith
@@ -137,59 +135,3 @@ module _ (random msg cipher work : List ℕ) where
     wrap-count e =
         let q : count_of r ≡ count_of (wrap_ends key random msg cipher work).answer = ap (λ (x : SealEnd). count_of x.answer) e in
         omega (arith, wrap-few key)
-
--- ---- opening and unwrapping
-untouched-few : (a : Answer) (out work : List ℕ) (r : Answer) (out' work' : List ℕ) → count_of a ≡ 0 → Untouched a out work r out' work' → count_of r ≡ 0
-untouched-few a out work r out' work' z u = rw u.answers z
-
-case-few : (s : Set) (key cipher : List ℕ) (Gives : List ℕ → Type 0) (before : List ℕ) (r : Answer) (after : List ℕ) → OpenCase s key cipher Gives before r after → count_of r ≡ 0
-case-few s key cipher Gives before (Done count) after o = o.0
-case-few s key cipher Gives before UnknownSet after o = refl
-case-few s key cipher Gives before WrongLength after o = refl
-case-few s key cipher Gives before FewMultipliers after o = refl
-case-few s key cipher Gives before FewElements after o = refl
-case-few s key cipher Gives before NoWindow after o = refl
-case-few s key cipher Gives before Dependent after o = refl
-case-few s key cipher Gives before Malformed after o = refl
-case-few s key cipher Gives before Singular after o = refl
-case-few s key cipher Gives before ZeroValues after o = refl
-case-few s key cipher Gives before NotOpened after o = refl
-case-few s key cipher Gives before WrongSecret after o = refl
-
-module _ (cipher out work : List ℕ) (r : Answer) (out' work' : List ℕ) where
-  opening-few : (s : Set) (key : List ℕ) (Gives : List ℕ → Type 0) → Opening s key cipher Gives out work r out' work' → count_of r ≡ 0
-  opening-few s key Gives o = case-few s key cipher Gives out r out' o.case
-
-  open-checked-few : (t : Bool) (s : Set) (key : List ℕ) → OpenChecked t s key cipher out work r out' work' → count_of r ≡ 0
-  open-checked-few true s key o = opening-few s key (Opens s key cipher) o
-  open-checked-few false s key o = untouched-few WrongLength out work r out' work' refl o
-
-  open-of-few : (n : Option Set) (key : List ℕ) → OpenOf n key cipher out work r out' work' → count_of r ≡ 0
-  open-of-few None key o = untouched-few UnknownSet out work r out' work' refl o
-  open-of-few (Some s) key o = open-checked-few (open_lengths s (length key) (length cipher) (length work) && eqb (length out) s.k1) s key o
-
-  open-few : (key : List ℕ) → OpenEnds key cipher out work r out' work' → count_of r ≡ 0
-  open-few [] o = untouched-few WrongLength out work r out' work' refl o
-  open-few (b ∷ key) o = open-of-few (set_of b) (b ∷ key) o
-
-  unwrap-sized-few : (t : Bool) (s : Set) (key : List ℕ) → UnwrapSized t s key cipher out work r out' work' → count_of r ≡ 0
-  unwrap-sized-few true s key o = opening-few s key (GivesSecret s key cipher (length out)) o
-  unwrap-sized-few false s key o = untouched-few WrongSecret out work r out' work' refl o
-
-  unwrap-checked-few : (t : Bool) (s : Set) (key : List ℕ) → UnwrapChecked t s key cipher out work r out' work' → count_of r ≡ 0
-  unwrap-checked-few true s key o = unwrap-sized-few (leb 1 (length out) && leb (length out) s.k1) s key o
-  unwrap-checked-few false s key o = untouched-few WrongLength out work r out' work' refl o
-
-  unwrap-of-few : (n : Option Set) (key : List ℕ) → UnwrapOf n key cipher out work r out' work' → count_of r ≡ 0
-  unwrap-of-few None key o = untouched-few UnknownSet out work r out' work' refl o
-  unwrap-of-few (Some s) key o = unwrap-checked-few (open_lengths s (length key) (length cipher) (length work)) s key o
-
-  unwrap-few : (key : List ℕ) → UnwrapEnds key cipher out work r out' work' → count_of r ≡ 0
-  unwrap-few [] o = untouched-few WrongLength out work r out' work' refl o
-  unwrap-few (b ∷ key) o = unwrap-of-few (set_of b) (b ∷ key) o
-
-  pub open-count : (key : List ℕ) → OpenEnds key cipher out work r out' work' → count_of r < 256
-  open-count key o = omega (arith, open-few key o)
-
-  pub unwrap-count : (key : List ℕ) → UnwrapEnds key cipher out work r out' work' → count_of r < 256
-  unwrap-count key o = omega (arith, unwrap-few key o)

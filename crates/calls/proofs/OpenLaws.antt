@@ -9,10 +9,10 @@ use lib.Dec.{eqb}
 use lib.ListN.{length, get_or, take}
 use borrow.Author.Tests.{eq-eqb, ne_eqb, le-leb, lt-leb, eqb-true, not-true, not-false}
 use Rattle.sets.specs.declared.Set.{Set}
-use Rattle.std.specs.Prelude.{Some, None}
+use Rattle.std.specs.Prelude.{Some, None, Ok, Err}
 use Rattle.sets.specs.Table.{set_of}
-use Rattle.scheme.specs.declared.Answer.{Answer}
-use Rattle.scheme.specs.declared.Answer.TheVariants.{Done, UnknownSet, WrongLength, WrongSecret, NotOpened, Malformed as AnswerMalformed, Singular as AnswerSingular}
+use Rattle.scheme.specs.Answers.{Opened as Disclosed}
+use Rattle.scheme.specs.declared.Refusal.TheVariants.{UnknownSet, WrongLength, WrongSecret, NotOpened, Malformed as AnswerMalformed, Singular as AnswerSingular}
 use Rattle.scheme.specs.Opening.{Opens}
 use Rattle.scheme.specs.Calls.{zeroed, open_lengths, Opening, GivesSecret, OpenOf, OpenEnds, UnwrapOf, UnwrapEnds}
 use Rattle.opening.specs.declared.Opened.{Opened}
@@ -43,7 +43,7 @@ module _ (s : Set) (key cipher work : ℕ) where
 
 -- as many bytes of the message as the secret has, copied over it
 pub handed : (message secret secret' : List ℕ) → length secret ≤ length message
-    → secret' ≡ take (length secret - 0) message → HandedOut message secret (Done 0) secret'
+    → secret' ≡ take (length secret - 0) message → HandedOut message secret (Ok tt) secret'
 handed message secret secret' h q = record { answer = refl; first = q ∙ ap (λ (n : ℕ). take n message) (sub-zero (length secret)) }
 
 module _ (s : Set) (key cipher work : List ℕ) (r : Opened) (msg work₁ : List ℕ) where
@@ -52,7 +52,7 @@ module _ (s : Set) (key cipher work : List ℕ) (r : Opened) (msg work₁ : List
 
   module _ (w : OpenedWiped s key cipher work r msg work₁) where
     -- the refusals, whatever the output is
-    module _ (Gives : List ℕ → Type 0) (out out₁ : List ℕ) (same : length out₁ ≡ length out) (b : Answer) (out₂ : List ℕ) where
+    module _ (Gives : List ℕ → Type 0) (out out₁ : List ℕ) (same : length out₁ ≡ length out) (b : Disclosed) (out₂ : List ℕ) where
       pub is-malformed : r ≡ Malformed → Withheld AnswerMalformed b out₁ out₂ → Opening s key cipher Gives out work b out₂ work₁
       is-malformed e f =
           let o : OpensAs s key cipher Malformed msg = rw e at w.opens in
@@ -61,32 +61,32 @@ module _ (s : Set) (key cipher work : List ℕ) (r : Opened) (msg work₁ : List
       pub is-singular : r ≡ Singular → Withheld AnswerSingular b out₁ out₂ → Opening s key cipher Gives out work b out₂ work₁
       is-singular e f =
           let o : OpensAs s key cipher Singular msg = rw e at w.opens in
-          record { case = rw f.answer (o.0, o.1, f.nothing ∙ zeroed-as out out₁ same); wiped = w.wiped }
+          record { case = rw f.answer ((o.0, o.1), f.nothing ∙ zeroed-as out out₁ same); wiped = w.wiped }
 
       not_opened : ((l : List ℕ) → Gives l → (m : List ℕ) × Opens s key cipher m) → r ≡ Not → Withheld NotOpened b out₁ out₂ → Opening s key cipher Gives out work b out₂ work₁
       not_opened t e f =
           let o : OpensAs s key cipher Not msg = rw e at w.opens in
           record {
-            case = rw f.answer (o.0, o.1, λ l g. o.2 (t l g).0 (t l g).1, f.nothing ∙ zeroed-as out out₁ same);
+            case = rw f.answer ((o.0, o.1, λ l g. o.2 (t l g).0 (t l g).1), f.nothing ∙ zeroed-as out out₁ same);
             wiped = w.wiped;
           }
 
-    pub is-message : (out : List ℕ) → r ≡ Message → Opening s key cipher (Opens s key cipher) out work (Done 0) msg work₁
+    pub is-message : (out : List ℕ) → r ≡ Message → Opening s key cipher (Opens s key cipher) out work (Ok tt) msg work₁
     is-message out e =
         let o : OpensAs s key cipher Message msg = rw e at w.opens in
-        record { case = (refl, o.0, o.1, o.2); wiped = w.wiped }
+        record { case = (o.0, o.1, o.2); wiped = w.wiped }
 
-    pub is-not : (out : List ℕ) → length msg ≡ length out → (b : Answer) (out₂ : List ℕ) → r ≡ Not → Withheld NotOpened b msg out₂ → Opening s key cipher (Opens s key cipher) out work b out₂ work₁
+    pub is-not : (out : List ℕ) → length msg ≡ length out → (b : Disclosed) (out₂ : List ℕ) → r ≡ Not → Withheld NotOpened b msg out₂ → Opening s key cipher (Opens s key cipher) out work b out₂ work₁
     is-not out same b out₂ e f = not_opened (Opens s key cipher) out msg same b out₂ (λ l g. (l, g)) e f
 
-    module _ (secret : List ℕ) (b : Answer) (secret₂ : List ℕ) where
+    module _ (secret : List ℕ) (b : Disclosed) (secret₂ : List ℕ) where
       abbrev Gives : List ℕ → Type 0
       Gives = GivesSecret s key cipher (length secret)
 
       pub secret-message : r ≡ Message → HandedOut msg secret b secret₂ → Opening s key cipher (GivesSecret s key cipher (length secret)) secret work b secret₂ work₁
       secret-message e f =
           let o : OpensAs s key cipher Message msg = rw e at w.opens in
-          record { case = rw f.answer (refl, o.0, o.1, (msg, o.2, f.first)); wiped = w.wiped }
+          record { case = rw f.answer (o.0, o.1, (msg, o.2, f.first)); wiped = w.wiped }
 
       pub secret-malformed : r ≡ Malformed → Withheld AnswerMalformed b secret secret₂ → Opening s key cipher (GivesSecret s key cipher (length secret)) secret work b secret₂ work₁
       secret-malformed e f = is-malformed Gives secret secret refl b secret₂ e f
@@ -113,10 +113,10 @@ module _ (s : Set) (key cipher work : List ℕ) where
       }
 
   module _ (t : Bool) (is : t ≡ open_lengths s (length key) (length cipher) (length work)) where
-    pub open-wrong : (out : List ℕ) → not t ≡ true → OpenOf (Some s) key cipher out work WrongLength out work
+    pub open-wrong : (out : List ℕ) → not t ≡ true → OpenOf (Some s) key cipher out work (Err WrongLength) out work
     open-wrong out h = rw (← is, not-true t h) (record { answers = refl; same_out = refl; same_work = refl })
 
-    pub unwrap-wrong : (out : List ℕ) → not t ≡ true → UnwrapOf (Some s) key cipher out work WrongLength out work
+    pub unwrap-wrong : (out : List ℕ) → not t ≡ true → UnwrapOf (Some s) key cipher out work (Err WrongLength) out work
     unwrap-wrong out h = rw (← is, not-true t h) (record { answers = refl; same_out = refl; same_work = refl })
 
     module _ (h : not t ≡ false) where
@@ -138,41 +138,41 @@ module _ (s : Set) (key cipher work : List ℕ) where
       open-ready v out long = open-given (disclose-given v) out long
 
       module _ (out : List ℕ) where
-        pub open-other : (length out ≡ s.k1 → ⊥) → OpenOf (Some s) key cipher out work WrongLength out work
+        pub open-other : (length out ≡ s.k1 → ⊥) → OpenOf (Some s) key cipher out work (Err WrongLength) out work
         open-other d = rw (right, ne_eqb (length out) s.k1 d) (record { answers = refl; same_out = refl; same_work = refl })
 
-        pub open_done : length out ≡ s.k1 → (b : Answer) (out₂ work₂ : List ℕ) → Opening s key cipher (Opens s key cipher) out work b out₂ work₂ → OpenOf (Some s) key cipher out work b out₂ work₂
+        pub open_done : length out ≡ s.k1 → (b : Disclosed) (out₂ work₂ : List ℕ) → Opening s key cipher (Opens s key cipher) out work b out₂ work₂ → OpenOf (Some s) key cipher out work b out₂ work₂
         open_done d b out₂ work₂ o = rw (right, eq-eqb (length out) s.k1 d) o
 
-        pub unwrap-short : length out < 1 → UnwrapOf (Some s) key cipher out work WrongSecret out work
+        pub unwrap-short : length out < 1 → UnwrapOf (Some s) key cipher out work (Err WrongSecret) out work
         unwrap-short d = rw (right, lt-leb 1 (length out) d) (record { answers = refl; same_out = refl; same_work = refl })
 
         module _ (o : 1 ≤ length out) where
-          pub unwrap-long : s.k1 < length out → UnwrapOf (Some s) key cipher out work WrongSecret out work
+          pub unwrap-long : s.k1 < length out → UnwrapOf (Some s) key cipher out work (Err WrongSecret) out work
           unwrap-long d = rw (right, le-leb 1 (length out) o, lt-leb (length out) s.k1 d) (record { answers = refl; same_out = refl; same_work = refl })
 
-          pub unwrap-done : length out ≤ s.k1 → (b : Answer) (out₂ work₂ : List ℕ) → Opening s key cipher (GivesSecret s key cipher (length out)) out work b out₂ work₂ → UnwrapOf (Some s) key cipher out work b out₂ work₂
+          pub unwrap-done : length out ≤ s.k1 → (b : Disclosed) (out₂ work₂ : List ℕ) → Opening s key cipher (GivesSecret s key cipher (length out)) out work b out₂ work₂ → UnwrapOf (Some s) key cipher out work b out₂ work₂
           unwrap-done d b out₂ work₂ x = rw (right, le-leb 1 (length out) o, le-leb (length out) s.k1 d) x
 
 -- ---- the key's first byte
 module _ (cipher out work : List ℕ) where
-  pub open-empty : (key : List ℕ) → length key ≡ 0 → OpenEnds key cipher out work WrongLength out work
+  pub open-empty : (key : List ℕ) → length key ≡ 0 → OpenEnds key cipher out work (Err WrongLength) out work
   open-empty [] h = record { answers = refl; same_out = refl; same_work = refl }
   open-empty (b ∷ key) h = absurd (omega arith)
 
-  pub unwrap-empty : (key : List ℕ) → length key ≡ 0 → UnwrapEnds key cipher out work WrongLength out work
+  pub unwrap-empty : (key : List ℕ) → length key ≡ 0 → UnwrapEnds key cipher out work (Err WrongLength) out work
   unwrap-empty [] h = record { answers = refl; same_out = refl; same_work = refl }
   unwrap-empty (b ∷ key) h = absurd (omega arith)
 
-  pub open_unknown : (key : List ℕ) → (length key ≡ 0 → ⊥) → set_of (get_or key 0 0) ≡ None → OpenEnds key cipher out work UnknownSet out work
+  pub open_unknown : (key : List ℕ) → (length key ≡ 0 → ⊥) → set_of (get_or key 0 0) ≡ None → OpenEnds key cipher out work (Err UnknownSet) out work
   open_unknown [] h e = absurd (h refl)
   open_unknown (b ∷ key) h e = rw e (record { answers = refl; same_out = refl; same_work = refl })
 
-  pub unwrap-unknown : (key : List ℕ) → (length key ≡ 0 → ⊥) → set_of (get_or key 0 0) ≡ None → UnwrapEnds key cipher out work UnknownSet out work
+  pub unwrap-unknown : (key : List ℕ) → (length key ≡ 0 → ⊥) → set_of (get_or key 0 0) ≡ None → UnwrapEnds key cipher out work (Err UnknownSet) out work
   unwrap-unknown [] h e = absurd (h refl)
   unwrap-unknown (b ∷ key) h e = rw e (record { answers = refl; same_out = refl; same_work = refl })
 
-  module _ (s : Set) (b : Answer) (out₂ work₂ : List ℕ) where
+  module _ (s : Set) (b : Disclosed) (out₂ work₂ : List ℕ) where
     pub open_is : (key : List ℕ) → (length key ≡ 0 → ⊥) → set_of (get_or key 0 0) ≡ Some s → OpenOf (Some s) key cipher out work b out₂ work₂ → OpenEnds key cipher out work b out₂ work₂
     open_is [] h e o = absurd (h refl)
     open_is (k ∷ key) h e o = rw e o

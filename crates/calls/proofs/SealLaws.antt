@@ -10,9 +10,9 @@ use lib.ListN.{length, get_or, drop, replicate, length-replicate, replicate-appe
 use lib.Seq.{drop_at}
 use borrow.Author.Tests.{eq-eqb, ne_eqb, le-leb, lt-leb, lt-ltb, le-ltb, eqb-true, not-true, not-false}
 use Rattle.sets.specs.declared.Set.{Set}
-use Rattle.std.specs.Prelude.{Some, None}
+use Rattle.std.specs.Prelude.{Some, None, Ok, Err}
 use Rattle.sets.specs.Table.{set_of}
-use Rattle.scheme.specs.declared.Answer.TheVariants.{Done, UnknownSet, WrongLength, ZeroValues, WrongSecret}
+use Rattle.scheme.specs.declared.Refusal.TheVariants.{UnknownSet, WrongLength, ZeroValues, WrongSecret}
 use Rattle.scheme.specs.Sealing.{first_fitting, secret_message}
 use Rattle.scheme.specs.Calls.{zeroed, SealEnd, seal_lengths, after_seal, seal_of, seal_ends, wrap_of, wrap_ends}
 use Rattle.sealing.specs.declared.Sealed.{Sealed}
@@ -56,14 +56,14 @@ module _ (s : Set) (key random cipher work : ℕ) where
 -- ---- past the first checks
 module _ (s : Set) (key random msg cipher work work₁ work₂ : List ℕ) (kept : length work₁ ≡ length work) (z : work₂ ≡ zeroed work₁)
     (r : Sealed) (cipher₁ : List ℕ) (m : Seals s key random msg r cipher₁) where
-  pub sealed-by : (b : ℕ) → r ≡ By b → seal_end (Done b) cipher₁ work₂ ≡ after_seal s key random msg cipher work
+  pub sealed-by : (b : ℕ) → r ≡ By b → seal_end (Ok b) cipher₁ work₂ ≡ after_seal s key random msg cipher work
   unfolding after_seal
   sealed-by b e =
       let f : Seals s key random msg (By b) cipher₁ = rw e at m in
       rw (← f.0, lt-ltb b (length random / s.block) f.1, ← f.2, z, kept)
 
   pub sealed-nowhere : r ≡ Nowhere → (cipher₂ : List ℕ) → length cipher₁ ≡ length cipher → cipher₂ ≡ zeroed cipher₁
-      → seal_end ZeroValues cipher₂ work₂ ≡ after_seal s key random msg cipher work
+      → seal_end (Err ZeroValues) cipher₂ work₂ ≡ after_seal s key random msg cipher work
   unfolding after_seal
   sealed-nowhere e cipher₂ same q =
       let f : Seals s key random msg Nowhere cipher₁ = rw e at m in
@@ -109,24 +109,24 @@ module _ (s : Set) (key random cipher work : List ℕ) (t : Bool) (is : t ≡ se
         }
 
   module _ (msg : List ℕ) where
-    pub seal-wrong : not t ≡ true → seal_end WrongLength cipher work ≡ seal_of (Some s) key random msg cipher work
+    pub seal-wrong : not t ≡ true → seal_end (Err WrongLength) cipher work ≡ seal_of (Some s) key random msg cipher work
     seal-wrong h = rw (← is, not-true t h)
 
-    pub wrap-wrong : not t ≡ true → seal_end WrongLength cipher work ≡ wrap_of (Some s) key random msg cipher work
+    pub wrap-wrong : not t ≡ true → seal_end (Err WrongLength) cipher work ≡ wrap_of (Some s) key random msg cipher work
     wrap-wrong h = rw (← is, not-true t h)
 
   module _ (msg : List ℕ) (h : not t ≡ false) where
-    pub seal-other : (length msg ≡ s.k1 → ⊥) → seal_end WrongLength cipher work ≡ seal_of (Some s) key random msg cipher work
+    pub seal-other : (length msg ≡ s.k1 → ⊥) → seal_end (Err WrongLength) cipher work ≡ seal_of (Some s) key random msg cipher work
     seal-other d = rw (right h, ne_eqb (length msg) s.k1 d)
 
     pub seal-done : length msg ≡ s.k1 → (x : SealEnd) → x ≡ after_seal s key random msg cipher work → x ≡ seal_of (Some s) key random msg cipher work
     seal-done d x q = q ∙ sym (rw (right h, eq-eqb (length msg) s.k1 d))
 
-    pub wrap-short : length msg < 1 → seal_end WrongSecret cipher work ≡ wrap_of (Some s) key random msg cipher work
+    pub wrap-short : length msg < 1 → seal_end (Err WrongSecret) cipher work ≡ wrap_of (Some s) key random msg cipher work
     wrap-short d = rw (right h, lt-leb 1 (length msg) d)
 
     module _ (o : 1 ≤ length msg) where
-      pub wrap-long : s.k1 < length msg → seal_end WrongSecret cipher work ≡ wrap_of (Some s) key random msg cipher work
+      pub wrap-long : s.k1 < length msg → seal_end (Err WrongSecret) cipher work ≡ wrap_of (Some s) key random msg cipher work
       wrap-long d = rw (right h, le-leb 1 (length msg) o, lt-leb (length msg) s.k1 d)
 
       pub wrap-done : length msg ≤ s.k1 → (x : SealEnd) → x ≡ after_seal s key random (secret_message s msg) cipher work → x ≡ wrap_of (Some s) key random msg cipher work
@@ -134,22 +134,22 @@ module _ (s : Set) (key random cipher work : List ℕ) (t : Bool) (is : t ≡ se
 
 -- ---- the key's first byte
 module _ (random msg cipher work : List ℕ) where
-  pub seal-empty : (key : List ℕ) → length key ≡ 0 → seal_end WrongLength cipher work ≡ seal_ends key random msg cipher work
+  pub seal-empty : (key : List ℕ) → length key ≡ 0 → seal_end (Err WrongLength) cipher work ≡ seal_ends key random msg cipher work
   unfolding seal_ends
   seal-empty [] h = refl
   seal-empty (b ∷ key) h = absurd (omega arith)
 
-  pub wrap-empty : (key : List ℕ) → length key ≡ 0 → seal_end WrongLength cipher work ≡ wrap_ends key random msg cipher work
+  pub wrap-empty : (key : List ℕ) → length key ≡ 0 → seal_end (Err WrongLength) cipher work ≡ wrap_ends key random msg cipher work
   unfolding wrap_ends
   wrap-empty [] h = refl
   wrap-empty (b ∷ key) h = absurd (omega arith)
 
-  pub seal-unknown : (key : List ℕ) → (length key ≡ 0 → ⊥) → set_of (get_or key 0 0) ≡ None → seal_end UnknownSet cipher work ≡ seal_ends key random msg cipher work
+  pub seal-unknown : (key : List ℕ) → (length key ≡ 0 → ⊥) → set_of (get_or key 0 0) ≡ None → seal_end (Err UnknownSet) cipher work ≡ seal_ends key random msg cipher work
   unfolding seal_ends
   seal-unknown [] h e = absurd (h refl)
   seal-unknown (b ∷ key) h e = rw e
 
-  pub wrap-unknown : (key : List ℕ) → (length key ≡ 0 → ⊥) → set_of (get_or key 0 0) ≡ None → seal_end UnknownSet cipher work ≡ wrap_ends key random msg cipher work
+  pub wrap-unknown : (key : List ℕ) → (length key ≡ 0 → ⊥) → set_of (get_or key 0 0) ≡ None → seal_end (Err UnknownSet) cipher work ≡ wrap_ends key random msg cipher work
   unfolding wrap_ends
   wrap-unknown [] h e = absurd (h refl)
   wrap-unknown (b ∷ key) h e = rw e

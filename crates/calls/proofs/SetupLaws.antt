@@ -6,10 +6,11 @@ use Prim.Native.Nat.{ℕ}
 use lib.ListN.{length}
 use borrow.Author.Tests.{eq-eqb, ne_eqb, eqb-true, not-true, not-false}
 use Rattle.sets.specs.declared.Set.{Set}
-use Rattle.std.specs.Prelude.{Some, None}
+use Rattle.std.specs.Prelude.{Some, None, Ok, Err}
 use Rattle.sets.specs.Table.{set_of}
-use Rattle.scheme.specs.declared.Answer.{Answer}
-use Rattle.scheme.specs.declared.Answer.TheVariants.{Done, UnknownSet, WrongLength, FewMultipliers, FewElements, NoWindow, Dependent}
+use Rattle.scheme.specs.Answers.{Answer}
+use Rattle.scheme.specs.declared.Refusal.{Refusal}
+use Rattle.scheme.specs.declared.Refusal.TheVariants.{UnknownSet, WrongLength, FewMultipliers, FewElements, NoWindow, Dependent}
 use Rattle.scheme.specs.Setup.{made, fails, setup}
 use Rattle.scheme.specs.Calls.{zeroed, SetupEnd, setup_lengths, after_setup, setup_ends}
 use Rattle.making.specs.declared.Made.{Made}
@@ -48,13 +49,13 @@ module _ (s : Set) (random work work₁ : List ℕ) (r : Made) (public₁ privat
   made-wiped m work₂ z e = record { makes = m; wiped = z ∙ zeroed-as work work₂ e }
 
   module _ (w : MadeWiped s random work r public₁ private₁ work₁) (public private : List ℕ) where
-    pub made_pair : (count : ℕ) → r ≡ Pair count → setup_end (Done count) public₁ private₁ work₁ ≡ after_setup (setup s random) public private work
+    pub made_pair : (count : ℕ) → r ≡ Pair count → setup_end (Ok count) public₁ private₁ work₁ ≡ after_setup (setup s random) public private work
     made_pair count e =
         let q : setup s random ≡ made public₁ private₁ count = rw e at w.makes in
         rw (q, w.wiped)
 
     module _ (ep : length public₁ ≡ length public) (eq : length private₁ ≡ length private) (b : Answer) (public₂ private₂ : List ℕ) where
-      refused : (a : Answer) → setup s random ≡ fails a → Refused a b public₁ private₁ public₂ private₂ → setup_end b public₂ private₂ work₁ ≡ after_setup (setup s random) public private work
+      refused : (a : Refusal) → setup s random ≡ fails a → Refused a b public₁ private₁ public₂ private₂ → setup_end b public₂ private₂ work₁ ≡ after_setup (setup s random) public private work
       refused a q f = rw (q, f.answer, f.no_public, f.no_private, w.wiped, ep, eq)
 
       pub few-multipliers : r ≡ Few → Refused FewMultipliers b public₁ private₁ public₂ private₂ → setup_end b public₂ private₂ work₁ ≡ after_setup (setup s random) public private work
@@ -89,12 +90,12 @@ module _ (s : Set) (random public private work : List ℕ) (t : Bool) (is : t �
 
 -- ---- the first checks
 module _ (byte : ℕ) (random public private work : List ℕ) where
-  pub unknown-set : set_of byte ≡ None → setup_end UnknownSet public private work ≡ setup_ends byte random public private work
+  pub unknown-set : set_of byte ≡ None → setup_end (Err UnknownSet) public private work ≡ setup_ends byte random public private work
   unfolding setup_ends
   unknown-set e = rw (e)
 
   module _ (s : Set) (e : set_of byte ≡ Some s) (t : Bool) (is : t ≡ setup_lengths s (length random) (length public) (length private) (length work)) where
-    pub wrong-length : not t ≡ true → setup_end WrongLength public private work ≡ setup_ends byte random public private work
+    pub wrong-length : not t ≡ true → setup_end (Err WrongLength) public private work ≡ setup_ends byte random public private work
     unfolding setup_ends
     wrong-length h = rw (e, ← is, not-true t h)
 

@@ -1,8 +1,8 @@
 -- What the calls end with, as the definitions of the crate `scheme` have it; and what the functions behind the first checks leave.
-use Rattle.std.specs.Prelude.{◌≡◌, List, ℕ, length, take}
+use Rattle.std.specs.Prelude.{◌≡◌, List, ℕ, length, take, Ok, Err}
 use Rattle.sets.specs.declared.Set.{Set}
-use Rattle.scheme.specs.declared.Answer.{Answer}
-use Rattle.scheme.specs.declared.Answer.TheVariants.{Done}
+use Rattle.scheme.specs.declared.Refusal.{Refusal}
+use Rattle.scheme.specs.Answers.{Answer, Opened as Disclosed}
 use Rattle.scheme.specs.Calls.{zeroed, SetupEnd, SealEnd}
 use Rattle.making.specs.declared.Made.{Made}
 use Rattle.making.specs.Stages.{Makes}
@@ -22,8 +22,8 @@ pub record MadeWiped (s : Set) (random work : List ℕ) (r : Made) (public priva
   pub wiped : work' ≡ zeroed work
 
 -- a refusal: both keys are zero
-pub record Refused (a r : Answer) (public private public' private' : List ℕ) : Type 0 where
-  pub answer : r ≡ a
+pub record Refused (e : Refusal) (r : Answer) (public private public' private' : List ℕ) : Type 0 where
+  pub answer : r ≡ Err e
   pub no_public : public' ≡ zeroed public
   pub no_private : private' ≡ zeroed private
 
@@ -33,11 +33,11 @@ pub record OpenedWiped (s : Set) (key cipher work : List ℕ) (r : Opened) (mess
   pub wiped : work' ≡ zeroed work
 
 -- a refusal: the output is zero
-pub record Withheld (a r : Answer) (out out' : List ℕ) : Type 0 where
-  pub answer : r ≡ a
+pub record Withheld (e : Refusal) (r : Disclosed) (out out' : List ℕ) : Type 0 where
+  pub answer : r ≡ Err e
   pub nothing : out' ≡ zeroed out
 
 -- the secret is the first bytes of the message
-pub record HandedOut (message secret : List ℕ) (r : Answer) (secret' : List ℕ) : Type 0 where
-  pub answer : r ≡ Done 0
+pub record HandedOut (message secret : List ℕ) (r : Disclosed) (secret' : List ℕ) : Type 0 where
+  pub answer : r ≡ Ok tt
   pub first : secret' ≡ take (length secret) message

@@ -7,37 +7,22 @@ ghost use Rattle.calls.specs.Ends.{seal_end};
 
 use crate::space::room;
 use lists::{wipe_bytes, wipe_numbers};
-use scheme::Answer;
+use scheme::Refusal;
 use sealing::Sealed;
 use sets::Set;
 
-// Whether the lengths are those of the set, and the random bytes from 1 to 16 blocks.
+/// Whether the lengths are those of the set, and the random bytes from 1 to 16 blocks.
 fn right_lengths(s: Set, key: usize, random: usize, cipher: usize, work: usize) -> bool
     requires { 0 < s.block }
     ensures { result ≡ seal_lengths s key random cipher work }
 {
-    let block = s.block;
-    let rest = random % block;
-    let blocks = random / block;
-    if key != s.public {
-        return false;
-    }
-    if rest != 0 {
-        return false;
-    }
-    if blocks < 1 {
-        return false;
-    }
-    if blocks > 16 {
-        return false;
-    }
-    if cipher != s.cipher {
-        return false;
-    }
-    if work != s.work {
-        return false;
-    }
-    true
+    let blocks = random / s.block;
+    key == s.public
+        && random % s.block == 0
+        && 1 <= blocks
+        && blocks <= 16
+        && cipher == s.cipher
+        && work == s.work
 }
 
 // Sealing past the first checks.
@@ -48,7 +33,7 @@ fn seal_checked(
     message: &[u8],
     cipher: &mut [u8],
     work: &mut [u16],
-) -> Answer
+) -> Result<usize, Refusal>
     requires seal_given { SealGiven s key.now cipher.old work.old }
     requires message_length { length message.now ≡ s.k1 }
     ensures { seal_end result cipher.new work.new ≡ after_seal s key.now random.now message.now cipher.old work.old }
@@ -57,9 +42,9 @@ fn seal_checked(
     wipe_numbers(work);
     let Sealed::By(block) = sealed else {
         wipe_bytes(cipher);
-        return Answer::ZeroValues;
+        return Err(Refusal::ZeroValues);
     };
-    Answer::Done(block)
+    Ok(block)
 }
 
 // Sealing for a set that is known.
@@ -70,16 +55,16 @@ fn seal_known(
     message: &[u8],
     cipher: &mut [u8],
     work: &mut [u16],
-) -> Answer
+) -> Result<usize, Refusal>
     requires { Serves s }
     ensures { seal_end result cipher.new work.new ≡ seal_of (Some s) key.now random.now message.now cipher.old work.old }
 {
     if !right_lengths(s, key.len(), random.len(), cipher.len(), work.len()) {
-        return Answer::WrongLength;
+        return Err(Refusal::WrongLength);
     }
     let k1 = s.k1;
     if message.len() != k1 {
-        return Answer::WrongLength;
+        return Err(Refusal::WrongLength);
     }
     seal_checked(s, key, random, message, cipher, work)
 }
@@ -95,14 +80,14 @@ pub fn seal(
     message: &[u8],
     cipher: &mut [u8],
     work: &mut [u16],
-) -> Answer
+) -> Result<usize, Refusal>
     ensures { seal_end result cipher.new work.new ≡ seal_ends key.now random.now message.now cipher.old work.old }
 {
     if key.len() == 0 {
-        return Answer::WrongLength;
+        return Err(Refusal::WrongLength);
     }
     let Some(parameters) = sets::find(key[0]) else {
-        return Answer::UnknownSet;
+        return Err(Refusal::UnknownSet);
     };
     seal_known(parameters.set, key, random, message, cipher, work)
 }
@@ -116,7 +101,7 @@ fn wrap_in(
     message: &mut [u8],
     cipher: &mut [u8],
     work: &mut [u16],
-) -> Answer
+) -> Result<usize, Refusal>
     requires seal_given { SealGiven s key.now cipher.old work.old }
     requires lengths { (length message.old ≡ s.k1) × (length secret.now ≤ s.k1) }
     ensures { seal_end result cipher.new work.new ≡ after_seal s key.now random.now (secret_message s secret.now) cipher.old work.old }
@@ -134,7 +119,7 @@ fn wrap_checked(
     secret: &[u8],
     cipher: &mut [u8],
     work: &mut [u16],
-) -> Answer
+) -> Result<usize, Refusal>
     requires seal_given { SealGiven s key.now cipher.old work.old }
     requires secret_fits { length secret.now ≤ s.k1 }
     ensures { seal_end result cipher.new work.new ≡ after_seal s key.now random.now (secret_message s secret.now) cipher.old work.old }
@@ -155,19 +140,19 @@ fn wrap_known(
     secret: &[u8],
     cipher: &mut [u8],
     work: &mut [u16],
-) -> Answer
+) -> Result<usize, Refusal>
     requires { Serves s }
     ensures { seal_end result cipher.new work.new ≡ wrap_of (Some s) key.now random.now secret.now cipher.old work.old }
 {
     if !right_lengths(s, key.len(), random.len(), cipher.len(), work.len()) {
-        return Answer::WrongLength;
+        return Err(Refusal::WrongLength);
     }
     let k1 = s.k1;
     if secret.len() < 1 {
-        return Answer::WrongSecret;
+        return Err(Refusal::WrongSecret);
     }
     if k1 < secret.len() {
-        return Answer::WrongSecret;
+        return Err(Refusal::WrongSecret);
     }
     wrap_checked(s, key, random, secret, cipher, work)
 }
@@ -175,14 +160,20 @@ fn wrap_known(
 // The ciphertext of a secret, which zero bytes fill up to k1 (001, 6.4), as `seal` makes it, or a refusal.
 //
 // The secret has 1 to k1 bytes, or the call is refused and nothing is written. All else is as `seal` has it.
-pub fn wrap(key: &[u8], random: &[u8], secret: &[u8], cipher: &mut [u8], work: &mut [u16]) -> Answer
+pub fn wrap(
+    key: &[u8],
+    random: &[u8],
+    secret: &[u8],
+    cipher: &mut [u8],
+    work: &mut [u16],
+) -> Result<usize, Refusal>
     ensures { seal_end result cipher.new work.new ≡ wrap_ends key.now random.now secret.now cipher.old work.old }
 {
     if key.len() == 0 {
-        return Answer::WrongLength;
+        return Err(Refusal::WrongLength);
     }
     let Some(parameters) = sets::find(key[0]) else {
-        return Answer::UnknownSet;
+        return Err(Refusal::UnknownSet);
     };
     wrap_known(parameters.set, key, random, secret, cipher, work)
 }

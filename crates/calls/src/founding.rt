@@ -7,26 +7,14 @@ ghost use Rattle.calls.specs.Ends.{setup_end, MadeWiped, Refused};
 
 use lists::{wipe_bytes, wipe_numbers};
 use making::Made;
-use scheme::Answer;
+use scheme::Refusal;
 use sets::Set;
 
-// Whether the lengths are those of the set.
+/// Whether the lengths are those of the set.
 fn right_lengths(s: Set, random: usize, public: usize, private: usize, work: usize) -> bool
     ensures { result ≡ setup_lengths s random public private work }
 {
-    if random != s.random {
-        return false;
-    }
-    if public != s.public {
-        return false;
-    }
-    if private != s.private {
-        return false;
-    }
-    if work != s.work {
-        return false;
-    }
-    true
+    random == s.random && public == s.public && private == s.private && work == s.work
 }
 
 // A key pair or a refusal, after which nothing is left in the work area.
@@ -46,12 +34,12 @@ fn make_wiped(
 }
 
 // The refusal, after which nothing is left in the keys.
-fn refuse(answer: Answer, public: &mut [u8], private: &mut [u8]) -> Answer
-    ensures { Refused answer result public.old private.old public.new private.new }
+fn refuse(refusal: Refusal, public: &mut [u8], private: &mut [u8]) -> Result<usize, Refusal>
+    ensures { Refused refusal result public.old private.old public.new private.new }
 {
     wipe_bytes(public);
     wipe_bytes(private);
-    answer
+    Err(refusal)
 }
 
 // Setup past the first checks.
@@ -61,17 +49,17 @@ fn setup_checked(
     public: &mut [u8],
     private: &mut [u8],
     work: &mut [u16],
-) -> Answer
+) -> Result<usize, Refusal>
     requires { Given s random.now public.old private.old work.old }
     ensures { setup_end result public.new private.new work.new ≡ after_setup (setup s random.now) public.old private.old work.old }
 {
     let made = make_wiped(s, random, public, private, work);
     match made {
-        Made::Pair(count) => Answer::Done(count),
-        Made::FewMultipliers => refuse(Answer::FewMultipliers, public, private),
-        Made::FewElements => refuse(Answer::FewElements, public, private),
-        Made::NoWindow => refuse(Answer::NoWindow, public, private),
-        Made::Dependent => refuse(Answer::Dependent, public, private),
+        Made::Pair(count) => Ok(count),
+        Made::FewMultipliers => refuse(Refusal::FewMultipliers, public, private),
+        Made::FewElements => refuse(Refusal::FewElements, public, private),
+        Made::NoWindow => refuse(Refusal::NoWindow, public, private),
+        Made::Dependent => refuse(Refusal::Dependent, public, private),
     }
 }
 
@@ -85,15 +73,15 @@ pub fn setup(
     public: &mut [u8],
     private: &mut [u8],
     work: &mut [u16],
-) -> Answer
+) -> Result<usize, Refusal>
     ensures { setup_end result public.new private.new work.new ≡ setup_ends byte random.now public.old private.old work.old }
 {
     let Some(parameters) = sets::find(byte) else {
-        return Answer::UnknownSet;
+        return Err(Refusal::UnknownSet);
     };
     let s = parameters.set;
     if !right_lengths(s, random.len(), public.len(), private.len(), work.len()) {
-        return Answer::WrongLength;
+        return Err(Refusal::WrongLength);
     }
     setup_checked(s, random, public, private, work)
 }

@@ -1,5 +1,5 @@
 -- The way of a message through the calls: what setup wrote is a pair of ours, so what is sealed or wrapped with it opens.
-use mathlib.Core.Path.{◌≡◌, refl, ap, subst, ◌∙◌}
+use mathlib.Core.Path.{◌≡◌, refl, ap, ◌∙◌}
 use mathlib.Core.Bool.{Bool, true, false, ◌&&◌}
 use mathlib.Core.List.{List, [], ◌∷◌}
 use Prim.Native.Nat.{ℕ}
@@ -10,14 +10,13 @@ use borrow.Author.Tests.{eqb-true}
 use Rattle.lists.specs.Loops.{pick}
 use Rattle.bits.specs.Bits.{Small}
 use Rattle.sets.specs.declared.Set.{Set}
-use Rattle.std.specs.Prelude.{Option, Some, None}
+use Rattle.std.specs.Prelude.{Option, Some, None, Ok, Err}
 use Rattle.sets.specs.Table.{set_of}
-use Rattle.scheme.specs.declared.Answer.TheVariants.{Done, WrongLength}
+use Rattle.scheme.specs.declared.Refusal.TheVariants.{WrongLength}
 use Rattle.scheme.specs.Setup.{Made, made, fails, setup}
 use Rattle.sets.proofs.Valid.{known}
 use Rattle.scheme.specs.Calls.{SetupEnd, setup_lengths, after_setup, setup_of, setup_ends, SealEnd, seal_lengths, after_seal, seal_ends}
 use Rattle.demands.specs.Demands.{Ours, Demands, SealedArrives, WrappedArrives, StringsAnswered}
-use Rattle.demands.proofs.Ending.{Refuses, setup-refuses}
 use Rattle.demands.proofs.Calls.{first_of, second-of}
 use Rattle.demands.proofs.Demands.{known-demands}
 
@@ -32,15 +31,15 @@ pub record Founded (byte : ℕ) (work : List ℕ) (r : SetupEnd) : Type 0 where
 
 module _ (byte : ℕ) (random public private work : List ℕ) (count : ℕ) (small : Small 8 random) where
   abbrev Gives : SetupEnd → Type 0
-  Gives r = r.answer ≡ Done count → Founded byte work r
+  Gives r = r.answer ≡ Ok count → Founded byte work r
 
   of-made : (s : Set) → set_of byte ≡ Some s → length random ≡ s.random → length work ≡ s.work → (m : Made) → setup s random ≡ m → Gives (after_setup m public private work)
   of-made s n long area (made p q c) e a =
       record { s = s; named = n; ours = record { random = random; long = long; bytes = small; count = c; is = e }; area = area }
-  of-made s n long area (fails x) e a = absurd (subst (λ (m : Made). Refuses m) (e ∙ ap fails a) (setup-refuses s random))
+  of-made s n long area (fails x) e a = absurd (let z : ◌≡◌ {A = ℕ} 0 1 = cc in omega arith)
 
   of-lengths : (s : Set) → set_of byte ≡ Some s → (b : Bool) → setup_lengths s (length random) (length public) (length private) (length work) ≡ b
-      → Gives (pick b (after_setup (setup s random) public private work) (record { answer = WrongLength; public = public; private = private; work = work }))
+      → Gives (pick b (after_setup (setup s random) public private work) (record { answer = Err WrongLength; public = public; private = private; work = work }))
   of-lengths s n true e a =
       let r = eqb (length random) s.random in
       let p = eqb (length public) s.public in
@@ -60,13 +59,13 @@ module _ (byte : ℕ) (random public private work : List ℕ) (count : ℕ) (sma
 -- ---- the length of what was sealed
 module _ (s : Set) (key random msg cipher work : List ℕ) (b : ℕ) where
   abbrev Sized : SealEnd → Type 0
-  Sized r = r.answer ≡ Done b → length msg ≡ s.k1
+  Sized r = r.answer ≡ Ok b → length msg ≡ s.k1
 
   pub sealed-size : set_of (get_or key 0 0) ≡ Some s → Sized (seal_ends key random msg cipher work)
   unfolding seal_ends
   sealed-size named = go key refl
     where
-      lengths : (k : List ℕ) (l t : Bool) → eqb (length msg) s.k1 ≡ t → Sized (pick (l && t) (after_seal s k random msg cipher work) (record { answer = WrongLength; cipher = cipher; work = work }))
+      lengths : (k : List ℕ) (l t : Bool) → eqb (length msg) s.k1 ≡ t → Sized (pick (l && t) (after_seal s k random msg cipher work) (record { answer = Err WrongLength; cipher = cipher; work = work }))
       lengths k l true e a = eqb-true _ _ e
       lengths k true false e a = absurd (let z : ◌≡◌ {A = ℕ} 0 1 = cc in omega arith)
       lengths k false false e a = absurd (let z : ◌≡◌ {A = ℕ} 0 1 = cc in omega arith)
@@ -78,7 +77,7 @@ module _ (s : Set) (key random msg cipher work : List ℕ) (b : ℕ) where
           lengths (byte ∷ k) (seal_lengths s (length (byte ∷ k)) (length random) (length cipher) (length work)) (eqb (length msg) s.k1) refl (rw names at a)
 
 -- ---- all the way
-module _ (byte : ℕ) (first public private work : List ℕ) (count : ℕ) (small : Small 8 first) (d : (setup_ends byte first public private work).answer ≡ Done count) where
+module _ (byte : ℕ) (first public private work : List ℕ) (count : ℕ) (small : Small 8 first) (d : (setup_ends byte first public private work).answer ≡ Ok count) where
   F : Founded byte work (setup_ends byte first public private work)
   F = founded byte first public private work count small d
 

@@ -11,11 +11,11 @@ use Rattle.lists.specs.Loops.{pick}
 use Rattle.gf.specs.Field.{width}
 use Rattle.bits.specs.Bits.{Small}
 use Rattle.sets.specs.declared.Set.{Set}
-use Rattle.std.specs.Prelude.{Some}
+use Rattle.std.specs.Prelude.{Some, Ok, Err}
 use Rattle.sets.specs.Table.{set_of}
 use Rattle.sets.specs.Valid.{Valid}
-use Rattle.scheme.specs.declared.Answer.{Answer}
-use Rattle.scheme.specs.declared.Answer.TheVariants.{Done, UnknownSet, WrongLength, Malformed, Singular as SingularW, ZeroValues, NotOpened, WrongSecret, FewMultipliers, FewElements, NoWindow, Dependent}
+use Rattle.scheme.specs.declared.Refusal.TheVariants.{UnknownSet, WrongLength, Malformed, Singular as SingularW, ZeroValues, NotOpened, WrongSecret, FewMultipliers, FewElements, NoWindow, Dependent}
+use Rattle.scheme.specs.Answers.{Opened}
 use Rattle.scheme.specs.Field.{field_of}
 use Rattle.scheme.specs.Sealing.{block_at, fits, first_fitting, sealed_by}
 use Rattle.scheme.specs.Opening.{Opens}
@@ -43,32 +43,32 @@ second-of false b e = absurd (false≢true e)
 -- ---- opening
 module _ (s : Set) (ok : Valid s) (e : width (field_of s) ≡ s.m) (named : set_of s.byte ≡ Some s) (public private : List ℕ) (G : GoodPair s public private) where
   module _ (cipher out work out' work' : List ℕ) (long : length cipher ≡ s.cipher) (bytes : Small 8 cipher) (room : length out ≡ s.k1) (area : length work ≡ s.work) where
-    by-case : (answer : Answer) → OpenCase s private cipher (Opens s private cipher) out answer out' → Answered s public cipher out answer out'
-    by-case (Done count) (z, w, n, o) = rw z (opened ((promised s ok e public private G).exactly.only cipher out' long bytes o))
-    by-case Malformed (m, z) = absurd (m G.well_formed)
-    by-case SingularW (w, m, z) = absurd (G.regular m)
-    by-case NotOpened (w, n, m, z) = rw z (refused (λ msg o. m msg ((promised s ok e public private G).exactly.opens cipher msg o)))
-    by-case UnknownSet c = absurd c
-    by-case WrongLength c = absurd c
-    by-case FewMultipliers c = absurd c
-    by-case FewElements c = absurd c
-    by-case NoWindow c = absurd c
-    by-case Dependent c = absurd c
-    by-case ZeroValues c = absurd c
-    by-case WrongSecret c = absurd c
+    by-case : (answer : Opened) → OpenCase s private (Opens s private cipher) out answer out' → Answered s public cipher out answer out'
+    by-case (Ok done) (w, n, o) = opened ((promised s ok e public private G).exactly.only cipher out' long bytes o)
+    by-case (Err Malformed) (m, z) = absurd (m G.well_formed)
+    by-case (Err SingularW) ((w, m), z) = absurd (G.regular m)
+    by-case (Err NotOpened) ((w, n, m), z) = rw z (refused (λ msg o. m msg ((promised s ok e public private G).exactly.opens cipher msg o)))
+    by-case (Err UnknownSet) c = absurd c.0
+    by-case (Err WrongLength) c = absurd c.0
+    by-case (Err FewMultipliers) c = absurd c.0
+    by-case (Err FewElements) c = absurd c.0
+    by-case (Err NoWindow) c = absurd c.0
+    by-case (Err Dependent) c = absurd c.0
+    by-case (Err ZeroValues) c = absurd c.0
+    by-case (Err WrongSecret) c = absurd c.0
 
     lengths : open_lengths s (length private) (length cipher) (length work) && eqb (length out) s.k1 ≡ true
     lengths =
         both _ _ (both _ _ (eq-eqb _ _ G.private_long) (both _ _ (eq-eqb _ _ long) (eq-eqb _ _ area))) (eq-eqb _ _ room)
 
-    checked : (b : Bool) (answer : Answer) → b ≡ true → OpenChecked b s private cipher out work answer out' work' → Answered s public cipher out answer out'
+    checked : (b : Bool) (answer : Opened) → b ≡ true → OpenChecked b s private cipher out work answer out' work' → Answered s public cipher out answer out'
     checked true answer t o = by-case answer o.case
     checked false answer t o = absurd (false≢true t)
 
-    of-set : (answer : Answer) → OpenOf (Some s) private cipher out work answer out' work' → Answered s public cipher out answer out'
+    of-set : (answer : Opened) → OpenOf (Some s) private cipher out work answer out' work' → Answered s public cipher out answer out'
     of-set answer o = checked _ answer lengths o
 
-    pub open-answers : (answer : Answer) → OpenEnds private cipher out work answer out' work' → Answered s public cipher out answer out'
+    pub open-answers : (answer : Opened) → OpenEnds private cipher out work answer out' work' → Answered s public cipher out answer out'
     open-answers answer o = go private refl o
       where
         go : (k : List ℕ) → k ≡ private → OpenEnds k cipher out work answer out' work' → Answered s public cipher out answer out'
@@ -82,14 +82,14 @@ module _ (s : Set) (ok : Valid s) (named : set_of s.byte ≡ Some s) (public ran
     (small : Small 8 random) (bytes : Small 8 msg) where
   -- the end gives the answer b, and its ciphertext is that of a triple with the message
   abbrev Gives : SealEnd → Type 0
-  Gives r = r.answer ≡ Done b → Sealed s public r.cipher msg
+  Gives r = r.answer ≡ Ok b → Sealed s public r.cipher msg
 
   pub after-found : length msg ≡ s.k1 → Gives (after_seal s public random msg cipher work)
   unfolding after_seal
   after-found long = go (ltb (first_fitting s msg random) (length random / s.block)) refl
     where
       go : (t : Bool) → ltb (first_fitting s msg random) (length random / s.block) ≡ t
-          → Gives (pick t (record { answer = Done (first_fitting s msg random); cipher = sealed_by s public msg random (first_fitting s msg random); work = zeroed work }) (record { answer = ZeroValues; cipher = zeroed cipher; work = zeroed work }))
+          → Gives (pick t (record { answer = Ok (first_fitting s msg random); cipher = sealed_by s public msg random (first_fitting s msg random); work = zeroed work }) (record { answer = Err ZeroValues; cipher = zeroed cipher; work = zeroed work }))
       go true q a = sealed s ok random (first_fitting s msg random) (lt-true _ _ q) public msg long bytes small (found (lt-true _ _ q))
         where
           found : first_fitting s msg random < length random / s.block → fits s msg (block_at s random (first_fitting s msg random)) ≡ true
@@ -101,18 +101,18 @@ module _ (s : Set) (ok : Valid s) (named : set_of s.byte ≡ Some s) (public ran
   of-known = go (seal_lengths s (length public) (length random) (length cipher) (length work) && eqb (length msg) s.k1) refl
     where
       go : (t : Bool) → seal_lengths s (length public) (length random) (length cipher) (length work) && eqb (length msg) s.k1 ≡ t
-          → Gives (pick t (after_seal s public random msg cipher work) (record { answer = WrongLength; cipher = cipher; work = work }))
+          → Gives (pick t (after_seal s public random msg cipher work) (record { answer = Err WrongLength; cipher = cipher; work = work }))
       go true q a =
           after-found (eqb-true (length msg) s.k1 (second-of (seal_lengths s (length public) (length random) (length cipher) (length work)) (eqb (length msg) s.k1) q)) a
       go false q a = absurd (let z : ◌≡◌ {A = ℕ} 0 1 = cc in omega arith)
 
   -- THEOREM (seal, triple). What sealing gives on 0 is the ciphertext of a triple with the message.
-  pub seal-gives : get_or public 0 0 ≡ s.byte → 0 < length public → (seal_ends public random msg cipher work).answer ≡ Done b
+  pub seal-gives : get_or public 0 0 ≡ s.byte → 0 < length public → (seal_ends public random msg cipher work).answer ≡ Ok b
       → Sealed s public (seal_ends public random msg cipher work).cipher msg
   unfolding seal_ends
   seal-gives byte-is some = go public refl
     where
-      go : (k : List ℕ) → k ≡ public → (seal_ends k random msg cipher work).answer ≡ Done b → Sealed s public (seal_ends k random msg cipher work).cipher msg
+      go : (k : List ℕ) → k ≡ public → (seal_ends k random msg cipher work).answer ≡ Ok b → Sealed s public (seal_ends k random msg cipher work).cipher msg
       go [] q = absurd (omega (arith, ap length q))
       go (byte ∷ k) q =
           let names : set_of byte ≡ Some s = ap (λ (l : List ℕ). set_of (get_or l 0 0)) q ∙ ap set_of byte-is ∙ named in
@@ -121,8 +121,8 @@ module _ (s : Set) (ok : Valid s) (named : set_of s.byte ≡ Some s) (public ran
 -- ---- both
 module _ (s : Set) (ok : Valid s) (e : width (field_of s) ≡ s.m) (named : set_of s.byte ≡ Some s) where
   -- an answer, of what was sealed with the message
-  only-opened : (public private cipher before m : List ℕ) → GoodPair s public private → Sealed s public cipher m → (answer : Answer) (after : List ℕ)
-      → Answered s public cipher before answer after → (answer ≡ Done 0) × (after ≡ m)
+  only-opened : (public private cipher before m : List ℕ) → GoodPair s public private → Sealed s public cipher m → (answer : Opened) (after : List ℕ)
+      → Answered s public cipher before answer after → (answer ≡ Ok tt) × (after ≡ m)
   only-opened public private cipher before m G o answer after (opened {msg} p) = (
     refl,
     at_most_one s ok e private cipher msg m G.private_long G.well_formed G.regular

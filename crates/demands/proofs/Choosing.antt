@@ -8,9 +8,9 @@ use lib.Dec.{eqb, leb, ltb}
 use lib.ListN.{length, get_or}
 use Rattle.lists.specs.Loops.{pick, first}
 use Rattle.sets.specs.declared.Set.{Set}
-use Rattle.std.specs.Prelude.{Some}
+use Rattle.std.specs.Prelude.{Some, Ok, Err}
 use Rattle.sets.specs.Table.{set_of}
-use Rattle.scheme.specs.declared.Answer.TheVariants.{Done, WrongLength, ZeroValues, WrongSecret}
+use Rattle.scheme.specs.declared.Refusal.TheVariants.{WrongLength, ZeroValues, WrongSecret}
 use Rattle.scheme.specs.Sealing.{block_at, fits, first_fitting, sealed_by, secret_message}
 use Rattle.scheme.specs.Calls.{SealEnd, zeroed, seal_lengths, after_seal, seal_ends, wrap_ends}
 use Rattle.demands.specs.Demands.{HasZero, Chosen, SealChooses, WrapChooses}
@@ -74,7 +74,7 @@ module _ (s : Set) (msg random : List ℕ) where
   after-chosen key cipher work = go (ltb (first_fitting s msg random) blocks) refl
     where
       go : (t : Bool) → ltb (first_fitting s msg random) blocks ≡ t
-          → Tells (pick t (record { answer = Done (first_fitting s msg random); cipher = sealed_by s key msg random (first_fitting s msg random); work = zeroed work }) (record { answer = ZeroValues; cipher = zeroed cipher; work = zeroed work }))
+          → Tells (pick t (record { answer = Ok (first_fitting s msg random); cipher = sealed_by s key msg random (first_fitting s msg random); work = zeroed work }) (record { answer = Err ZeroValues; cipher = zeroed cipher; work = zeroed work }))
       go true q = let h : first_fitting s msg random < blocks = lt-true _ _ q in (h, used h, passed)
       go false q = λ i h. passed i (omega (arith, lt-false (first_fitting s msg random) blocks q))
 
@@ -87,7 +87,7 @@ module _ (s : Set) (named : set_of s.byte ≡ Some s) where
   unfolding seal_ends
   seal-chooses key random msg cipher work e = go key refl
     where
-      lengths : (t : Bool) (k : List ℕ) → Tells s msg random (pick t (after_seal s k random msg cipher work) (record { answer = WrongLength; cipher = cipher; work = work }))
+      lengths : (t : Bool) (k : List ℕ) → Tells s msg random (pick t (after_seal s k random msg cipher work) (record { answer = Err WrongLength; cipher = cipher; work = work }))
       lengths true k = after-chosen s msg random k cipher work
       lengths false k = tt
 
@@ -101,11 +101,11 @@ module _ (s : Set) (named : set_of s.byte ≡ Some s) where
   unfolding wrap_ends
   wrap-chooses key random secret cipher work e = go key refl
     where
-      sized : (t : Bool) (k : List ℕ) → Tells s (secret_message s secret) random (pick t (after_seal s k random (secret_message s secret) cipher work) (record { answer = WrongSecret; cipher = cipher; work = work }))
+      sized : (t : Bool) (k : List ℕ) → Tells s (secret_message s secret) random (pick t (after_seal s k random (secret_message s secret) cipher work) (record { answer = Err WrongSecret; cipher = cipher; work = work }))
       sized true k = after-chosen s (secret_message s secret) random k cipher work
       sized false k = tt
 
-      lengths : (t u : Bool) (k : List ℕ) → Tells s (secret_message s secret) random (pick t (pick u (after_seal s k random (secret_message s secret) cipher work) (record { answer = WrongSecret; cipher = cipher; work = work })) (record { answer = WrongLength; cipher = cipher; work = work }))
+      lengths : (t u : Bool) (k : List ℕ) → Tells s (secret_message s secret) random (pick t (pick u (after_seal s k random (secret_message s secret) cipher work) (record { answer = Err WrongSecret; cipher = cipher; work = work })) (record { answer = Err WrongLength; cipher = cipher; work = work }))
       lengths true u k = sized u k
       lengths false u k = tt
 

@@ -7,37 +7,37 @@ use lib.Dec.{eqb, leb, ltb}
 use lib.ListN.{length}
 use Rattle.lists.specs.Loops.{pick}
 use Rattle.sets.specs.declared.Set.{Set}
-use Rattle.std.specs.Prelude.{Option, Some, None}
+use Rattle.std.specs.Prelude.{Option, Some, None, Ok, Err}
 use Rattle.sets.specs.Table.{set_of}
-use Rattle.scheme.specs.declared.Answer.{Answer}
-use Rattle.scheme.specs.declared.Answer.TheVariants.{Done, UnknownSet, WrongLength, FewMultipliers, FewElements, NoWindow, Dependent, Malformed, Singular, ZeroValues, NotOpened, WrongSecret}
+use Rattle.scheme.specs.declared.Refusal.{Refusal}
+use Rattle.scheme.specs.declared.Refusal.TheVariants.{UnknownSet, WrongLength, FewMultipliers, FewElements, NoWindow, Dependent, Malformed, Singular, ZeroValues, NotOpened, WrongSecret}
+use Rattle.scheme.specs.Answers.{Opened}
 use Rattle.scheme.specs.Field.{field_of}
 use Rattle.scheme.specs.Keys.{public_key, private_key}
 use Rattle.scheme.specs.Setup.{Made, made, fails, Found, found, none, usable, blocks, block_elements, window, reduced_pair, with_blocks, setup}
 use Rattle.scheme.specs.Sealing.{first_fitting, sealed_by, secret_message}
 use Rattle.scheme.specs.Opening.{Opens}
-use Rattle.scheme.specs.Calls.{zeroed, SetupEnd, setup_lengths, after_setup, setup_of, setup_ends, SealEnd, seal_lengths, after_seal, seal_of, seal_ends, wrap_of, wrap_ends, open_lengths, OpenCase, OpenChecked, OpenOf, OpenEnds, GivesSecret, UnwrapSized, UnwrapChecked, UnwrapOf, UnwrapEnds, Untouched}
+use Rattle.scheme.specs.Calls.{zeroed, SetupEnd, setup_lengths, after_setup, setup_of, setup_ends, SealEnd, seal_lengths, after_seal, seal_of, seal_ends, wrap_of, wrap_ends, open_lengths, OpenCase, OpenChecked, OpenOf, OpenEnds, GivesSecret, UnwrapSized, UnwrapChecked, UnwrapOf, UnwrapEnds, Untouched, OpenRefuses}
 use Rattle.demands.specs.Demand1.{Output, Area, Demand1}
 use Rattle.demands.proofs.Made.{end_of, ge_of, key_made}
 
 -- ---- setup's refusals are four
-abbrev pub Refusal : Answer → Type 0
-Refusal FewMultipliers = Unit
-Refusal FewElements = Unit
-Refusal NoWindow = Unit
-Refusal Dependent = Unit
-Refusal (Done count) = ⊥
-Refusal UnknownSet = ⊥
-Refusal WrongLength = ⊥
-Refusal WrongSecret = ⊥
-Refusal Malformed = ⊥
-Refusal Singular = ⊥
-Refusal ZeroValues = ⊥
-Refusal NotOpened = ⊥
+abbrev pub OfSetup : Refusal → Type 0
+OfSetup FewMultipliers = Unit
+OfSetup FewElements = Unit
+OfSetup NoWindow = Unit
+OfSetup Dependent = Unit
+OfSetup UnknownSet = ⊥
+OfSetup WrongLength = ⊥
+OfSetup WrongSecret = ⊥
+OfSetup Malformed = ⊥
+OfSetup Singular = ⊥
+OfSetup ZeroValues = ⊥
+OfSetup NotOpened = ⊥
 
 abbrev pub Refuses : Made → Type 0
 Refuses (made p q c) = Unit
-Refuses (fails a) = Refusal a
+Refuses (fails a) = OfSetup a
 
 module _ (s : Set) (random : List ℕ) where
   reduced-refuses : (A : List ℕ) (p : ℕ) → Refuses (reduced_pair s random A p)
@@ -76,7 +76,6 @@ module _ (random public private work : List ℕ) where
   after-ends (fails FewElements) h = (refl, refl, refl)
   after-ends (fails NoWindow) h = (refl, refl, refl)
   after-ends (fails Dependent) h = (refl, refl, refl)
-  after-ends (fails (Done count)) h = absurd h
   after-ends (fails UnknownSet) h = absurd h
   after-ends (fails WrongLength) h = absurd h
   after-ends (fails WrongSecret) h = absurd h
@@ -89,7 +88,7 @@ module _ (random public private work : List ℕ) where
   unfolding setup_ends
   setup-ends byte = go (set_of byte)
     where
-      lengths : (s : Set) (b : Bool) → Ends (pick b (after_setup (setup s random) public private work) (record { answer = WrongLength; public = public; private = private; work = work }))
+      lengths : (s : Set) (b : Bool) → Ends (pick b (after_setup (setup s random) public private work) (record { answer = Err WrongLength; public = public; private = private; work = work }))
       lengths s true = after-ends (setup s random) (setup-refuses s random)
       lengths s false = (refl, refl, refl)
 
@@ -106,11 +105,11 @@ module _ (random cipher work : List ℕ) where
   unfolding after_seal
   after-closes s key msg = go (ltb (first_fitting s msg random) (length random / s.block))
     where
-      go : (b : Bool) → Closes (pick b (record { answer = Done (first_fitting s msg random); cipher = sealed_by s key msg random (first_fitting s msg random); work = zeroed work }) (record { answer = ZeroValues; cipher = zeroed cipher; work = zeroed work }))
+      go : (b : Bool) → Closes (pick b (record { answer = Ok (first_fitting s msg random); cipher = sealed_by s key msg random (first_fitting s msg random); work = zeroed work }) (record { answer = Err ZeroValues; cipher = zeroed cipher; work = zeroed work }))
       go true = (tt, refl)
       go false = (refl, refl)
 
-  checked : (s : Set) (key msg : List ℕ) (b : Bool) → Closes (pick b (after_seal s key random msg cipher work) (record { answer = WrongLength; cipher = cipher; work = work }))
+  checked : (s : Set) (key msg : List ℕ) (b : Bool) → Closes (pick b (after_seal s key random msg cipher work) (record { answer = Err WrongLength; cipher = cipher; work = work }))
   checked s key msg true = after-closes s key msg
   checked s key msg false = (refl, refl)
 
@@ -123,7 +122,7 @@ module _ (random cipher work : List ℕ) where
       go None = (refl, refl)
       go (Some s) = checked s (byte ∷ key) msg (seal_lengths s (length (byte ∷ key)) (length random) (length cipher) (length work) && eqb (length msg) s.k1)
 
-  sized : (s : Set) (key msg : List ℕ) (b : Bool) → Closes (pick b (after_seal s key random msg cipher work) (record { answer = WrongSecret; cipher = cipher; work = work }))
+  sized : (s : Set) (key msg : List ℕ) (b : Bool) → Closes (pick b (after_seal s key random msg cipher work) (record { answer = Err WrongSecret; cipher = cipher; work = work }))
   sized s key msg true = after-closes s key msg
   sized s key msg false = (refl, refl)
 
@@ -132,7 +131,7 @@ module _ (random cipher work : List ℕ) where
   wrap-ends [] secret = (refl, refl)
   wrap-ends (byte ∷ key) secret = go (set_of byte)
     where
-      lengths : (s : Set) (b : Bool) → Closes (pick b (pick (leb 1 (length secret) && leb (length secret) s.k1) (after_seal s (byte ∷ key) random (secret_message s secret) cipher work) (record { answer = WrongSecret; cipher = cipher; work = work })) (record { answer = WrongLength; cipher = cipher; work = work }))
+      lengths : (s : Set) (b : Bool) → Closes (pick b (pick (leb 1 (length secret) && leb (length secret) s.k1) (after_seal s (byte ∷ key) random (secret_message s secret) cipher work) (record { answer = Err WrongSecret; cipher = cipher; work = work })) (record { answer = Err WrongLength; cipher = cipher; work = work }))
       lengths s true = sized s (byte ∷ key) (secret_message s secret) (leb 1 (length secret) && leb (length secret) s.k1)
       lengths s false = (refl, refl)
 
@@ -141,23 +140,26 @@ module _ (random cipher work : List ℕ) where
       go (Some s) = lengths s (seal_lengths s (length (byte ∷ key)) (length random) (length cipher) (length work))
 
 -- ---- opening and unwrapping
-module _ (key cipher out work : List ℕ) (answer : Answer) (out' work' : List ℕ) where
-  abbrev Discloses : Answer → Type 0
+module _ (key cipher out work : List ℕ) (answer : Opened) (out' work' : List ℕ) where
+  abbrev Discloses : Opened → Type 0
   Discloses a = Output a out out' × Area a work work'
 
-  by-case : (s : Set) (k : List ℕ) (G : List ℕ → Type 0) (a : Answer) → OpenCase s k cipher G out a out' → work' ≡ zeroed work → Discloses a
-  by-case s k G (Done count) c z = (tt, z)
-  by-case s k G Malformed c z = (c.1, z)
-  by-case s k G Singular c z = (c.2, z)
-  by-case s k G NotOpened c z = (c.3, z)
-  by-case s k G UnknownSet c z = absurd c
-  by-case s k G WrongLength c z = absurd c
-  by-case s k G FewMultipliers c z = absurd c
-  by-case s k G FewElements c z = absurd c
-  by-case s k G NoWindow c z = absurd c
-  by-case s k G Dependent c z = absurd c
-  by-case s k G ZeroValues c z = absurd c
-  by-case s k G WrongSecret c z = absurd c
+  late : (s : Set) (k : List ℕ) (G : List ℕ → Type 0) (e : Refusal) → OpenRefuses s k G e → out' ≡ zeroed out → work' ≡ zeroed work → Discloses (Err e)
+  late s k G Malformed c y z = (y, z)
+  late s k G Singular c y z = (y, z)
+  late s k G NotOpened c y z = (y, z)
+  late s k G UnknownSet c y z = absurd c
+  late s k G WrongLength c y z = absurd c
+  late s k G FewMultipliers c y z = absurd c
+  late s k G FewElements c y z = absurd c
+  late s k G NoWindow c y z = absurd c
+  late s k G Dependent c y z = absurd c
+  late s k G ZeroValues c y z = absurd c
+  late s k G WrongSecret c y z = absurd c
+
+  by-case : (s : Set) (k : List ℕ) (G : List ℕ → Type 0) (a : Opened) → OpenCase s k G out a out' → work' ≡ zeroed work → Discloses a
+  by-case s k G (Ok done) c z = (tt, z)
+  by-case s k G (Err e) c z = late s k G e c.0 c.1 z
 
   of-unknown : Untouched UnknownSet out work answer out' work' → Discloses answer
   of-unknown u = rw u.answers (u.same_out, u.same_work)

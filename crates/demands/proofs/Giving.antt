@@ -8,10 +8,10 @@ use lib.Dec.{ltb}
 use lib.ListN.{length}
 use borrow.Author.Tests.{eq-eqb}
 use Rattle.sets.specs.declared.Set.{Set}
-use Rattle.std.specs.Prelude.{Some}
+use Rattle.std.specs.Prelude.{Some, Ok, Err}
 use Rattle.sets.specs.Table.{set_of}
-use Rattle.scheme.specs.declared.Answer.{Answer}
-use Rattle.scheme.specs.declared.Answer.TheVariants.{Done, ZeroValues}
+use Rattle.scheme.specs.declared.Refusal.TheVariants.{ZeroValues}
+use Rattle.scheme.specs.Answers.{Opened}
 use Rattle.scheme.specs.Setup.{Made, made, fails, setup}
 use Rattle.scheme.specs.Sealing.{first_fitting, sealed_by, secret_message}
 use Rattle.scheme.specs.Opening.{Opens}
@@ -62,29 +62,29 @@ module _ (s : Set) (byte : ℕ) (named : set_of byte ≡ Some s) where
     wrap-past secret g h = rw (named, seal-lengths, both _ _ (true-le _ _ g) (true-le _ _ h))
 
     pub by_first : (msg : List ℕ) → first_fitting s msg random < length random / s.block
-        → after_seal s (byte ∷ key) random msg cipher work ≡ record { answer = Done (first_fitting s msg random); cipher = sealed_by s (byte ∷ key) msg random (first_fitting s msg random); work = zeroed work }
+        → after_seal s (byte ∷ key) random msg cipher work ≡ record { answer = Ok (first_fitting s msg random); cipher = sealed_by s (byte ∷ key) msg random (first_fitting s msg random); work = zeroed work }
     unfolding after_seal
     by_first msg h = rw (true-lt _ _ h)
 
     pub nowhere : (msg : List ℕ) → length random / s.block ≤ first_fitting s msg random
-        → after_seal s (byte ∷ key) random msg cipher work ≡ record { answer = ZeroValues; cipher = zeroed cipher; work = zeroed work }
+        → after_seal s (byte ∷ key) random msg cipher work ≡ record { answer = Err ZeroValues; cipher = zeroed cipher; work = zeroed work }
     unfolding after_seal
     nowhere msg h = rw (lt_not _ _ h)
 
   -- ---- opening and unwrapping
-  module _ (key cipher out work : List ℕ) (L : OpenLent s (byte ∷ key) cipher work) (answer : Answer) (out' work' : List ℕ) where
+  module _ (key cipher out work : List ℕ) (L : OpenLent s (byte ∷ key) cipher work) (answer : Opened) (out' work' : List ℕ) where
     open-lengths : open_lengths s (length (byte ∷ key)) (length cipher) (length work) ≡ true
     open-lengths = both _ _ (eq-eqb _ _ L.key_long) (both _ _ (eq-eqb _ _ L.cipher_long) (eq-eqb _ _ L.work_long))
 
     pub open-past : length out ≡ s.k1 → OpenEnds (byte ∷ key) cipher out work answer out' work'
-        → OpenCase s (byte ∷ key) cipher (Opens s (byte ∷ key) cipher) out answer out'
+        → OpenCase s (byte ∷ key) (Opens s (byte ∷ key) cipher) out answer out'
     open-past h o =
         let p : OpenOf (Some s) (byte ∷ key) cipher out work answer out' work' = rw named at o in
         let q : OpenChecked true s (byte ∷ key) cipher out work answer out' work' = rw (both _ _ open-lengths (eq-eqb _ _ h)) at p in
         q.case
 
     pub unwrap-past : 1 ≤ length out → length out ≤ s.k1 → UnwrapEnds (byte ∷ key) cipher out work answer out' work'
-        → OpenCase s (byte ∷ key) cipher (GivesSecret s (byte ∷ key) cipher (length out)) out answer out'
+        → OpenCase s (byte ∷ key) (GivesSecret s (byte ∷ key) cipher (length out)) out answer out'
     unwrap-past g h o =
         let p : UnwrapOf (Some s) (byte ∷ key) cipher out work answer out' work' = rw named at o in
         let q : UnwrapChecked true s (byte ∷ key) cipher out work answer out' work' = rw open-lengths at p in

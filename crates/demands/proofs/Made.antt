@@ -9,8 +9,8 @@ use lib.ListN.{length}
 use Rattle.lists.specs.Loops.{pick}
 use Rattle.sets.specs.declared.Set.{Set}
 use Rattle.linear.specs.Elimination.{Done, eliminated}
-use Rattle.scheme.specs.declared.Answer.{Answer}
-use Rattle.scheme.specs.declared.Answer.TheVariants.{FewMultipliers, NoWindow, Dependent}
+use Rattle.scheme.specs.declared.Refusal.{Refusal}
+use Rattle.scheme.specs.declared.Refusal.TheVariants.{FewMultipliers, NoWindow, Dependent}
 use Rattle.scheme.specs.Lists.{inverse_of}
 use Rattle.scheme.specs.Field.{field_of}
 use Rattle.scheme.specs.Matrices.{listed}
@@ -50,11 +50,11 @@ pub record MadeOf (s : Set) (random public private : List ℕ) : Type 0 where
   pub private_is : private ≡ private_key s (key_made s random A p)
 
 -- what is made did not fail
-past : (b : Bool) (a : Answer) (m : Made) (x y : List ℕ) (c : ℕ) → pick b (fails a) m ≡ made x y c → (b ≡ false) × (m ≡ made x y c)
+past : (b : Bool) (a : Refusal) (m : Made) (x y : List ℕ) (c : ℕ) → pick b (fails a) m ≡ made x y c → (b ≡ false) × (m ≡ made x y c)
 past true a m x y c e = absurd (let z : ◌≡◌ {A = ℕ} 0 1 = cc in omega arith)
 past false a m x y c e = (refl, e)
 
-within : (b : Bool) (a : Answer) (m : Made) (x y : List ℕ) (c : ℕ) → pick b m (fails a) ≡ made x y c → m ≡ made x y c
+within : (b : Bool) (a : Refusal) (m : Made) (x y : List ℕ) (c : ℕ) → pick b m (fails a) ≡ made x y c → m ≡ made x y c
 within true a m x y c e = e
 within false a m x y c e = absurd (let z : ◌≡◌ {A = ℕ} 0 1 = cc in omega arith)
 

@@ -13,11 +13,11 @@ use Rattle.lists.specs.Loops.{pick}
 use Rattle.gf.specs.Field.{width}
 use Rattle.bits.specs.Bits.{Small}
 use Rattle.sets.specs.declared.Set.{Set}
-use Rattle.std.specs.Prelude.{Some}
+use Rattle.std.specs.Prelude.{Some, Ok, Err}
 use Rattle.sets.specs.Table.{set_of}
 use Rattle.sets.specs.Valid.{Valid}
-use Rattle.scheme.specs.declared.Answer.{Answer}
-use Rattle.scheme.specs.declared.Answer.TheVariants.{Done, UnknownSet, WrongLength, Malformed, Singular as SingularW, ZeroValues, NotOpened, WrongSecret, FewMultipliers, FewElements, NoWindow, Dependent}
+use Rattle.scheme.specs.declared.Refusal.TheVariants.{UnknownSet, WrongLength, Malformed, Singular as SingularW, ZeroValues, NotOpened, WrongSecret, FewMultipliers, FewElements, NoWindow, Dependent}
+use Rattle.scheme.specs.Answers.{Opened}
 use Rattle.scheme.specs.Field.{field_of}
 use Rattle.scheme.specs.Sealing.{secret_message}
 use Rattle.scheme.specs.Opening.{Opens}
@@ -58,13 +58,13 @@ module _ (s : Set) (ok : Valid s) (named : set_of s.byte ≡ Some s) (public ran
 
   -- the end gives the answer b: the secret is not too long, and the ciphertext is that of a triple with the wrapped message
   abbrev Gives : SealEnd → Type 0
-  Gives r = r.answer ≡ Done b → (1 ≤ length secret) × (length secret ≤ s.k1) × Sealed s public r.cipher (secret_message s secret)
+  Gives r = r.answer ≡ Ok b → (1 ≤ length secret) × (length secret ≤ s.k1) × Sealed s public r.cipher (secret_message s secret)
 
   of-known : Gives (wrap_of (Some s) public random secret cipher work)
   of-known = go (seal_lengths s (length public) (length random) (length cipher) (length work)) sized refl
     where
       go : (t u : Bool) → leb 1 (length secret) && leb (length secret) s.k1 ≡ u
-          → Gives (pick t (pick u (after_seal s public random (secret_message s secret) cipher work) (record { answer = WrongSecret; cipher = cipher; work = work })) (record { answer = WrongLength; cipher = cipher; work = work }))
+          → Gives (pick t (pick u (after_seal s public random (secret_message s secret) cipher work) (record { answer = Err WrongSecret; cipher = cipher; work = work })) (record { answer = Err WrongLength; cipher = cipher; work = work }))
       go true true q a =
           let h : length secret ≤ s.k1 = le-true _ _ (second-of (leb 1 (length secret)) (leb (length secret) s.k1) q) in
           let g : 1 ≤ length secret = le-true _ _ (first_of (leb 1 (length secret)) (leb (length secret) s.k1) q) in
@@ -89,41 +89,41 @@ module _ (s : Set) (ok : Valid s) (e : width (field_of s) ≡ s.m) (named : set_
     O : Opens s private cipher msg
     O = (promised s ok e public private G).exactly.opens cipher msg P
 
-    by-case : (answer : Answer) → OpenCase s private cipher (GivesSecret s private cipher (length out)) out answer out' → (answer ≡ Done 0) × (out' ≡ take (length out) msg)
-    by-case (Done count) (z, w, n, (m, o, q)) = (
-      ap Done z,
+    by-case : (answer : Opened) → OpenCase s private (GivesSecret s private cipher (length out)) out answer out' → (answer ≡ Ok tt) × (out' ≡ take (length out) msg)
+    by-case (Ok done) (w, n, (m, o, q)) = (
+      refl,
       q ∙ ap (take (length out)) (at_most_one s ok e private cipher m msg G.private_long G.well_formed G.regular o O),
     )
-    by-case Malformed (m, z) = absurd (m G.well_formed)
-    by-case SingularW (w, m, z) = absurd (G.regular m)
-    by-case NotOpened (w, n, m, z) = absurd (m (take (length out) msg) (msg, O, refl))
-    by-case UnknownSet c = absurd c
-    by-case WrongLength c = absurd c
-    by-case FewMultipliers c = absurd c
-    by-case FewElements c = absurd c
-    by-case NoWindow c = absurd c
-    by-case Dependent c = absurd c
-    by-case ZeroValues c = absurd c
-    by-case WrongSecret c = absurd c
+    by-case (Err Malformed) (m, z) = absurd (m G.well_formed)
+    by-case (Err SingularW) ((w, m), z) = absurd (G.regular m)
+    by-case (Err NotOpened) ((w, n, m), z) = absurd (m (take (length out) msg) (msg, O, refl))
+    by-case (Err UnknownSet) c = absurd c.0
+    by-case (Err WrongLength) c = absurd c.0
+    by-case (Err FewMultipliers) c = absurd c.0
+    by-case (Err FewElements) c = absurd c.0
+    by-case (Err NoWindow) c = absurd c.0
+    by-case (Err Dependent) c = absurd c.0
+    by-case (Err ZeroValues) c = absurd c.0
+    by-case (Err WrongSecret) c = absurd c.0
 
-    sized-out : (b : Bool) (answer : Answer) → b ≡ true → UnwrapSized b s private cipher out work answer out' work' → (answer ≡ Done 0) × (out' ≡ take (length out) msg)
+    sized-out : (b : Bool) (answer : Opened) → b ≡ true → UnwrapSized b s private cipher out work answer out' work' → (answer ≡ Ok tt) × (out' ≡ take (length out) msg)
     sized-out true answer t o = by-case answer o.case
     sized-out false answer t o = absurd (false≢true t)
 
-    checked : (b : Bool) (answer : Answer) → b ≡ true → UnwrapChecked b s private cipher out work answer out' work' → (answer ≡ Done 0) × (out' ≡ take (length out) msg)
+    checked : (b : Bool) (answer : Opened) → b ≡ true → UnwrapChecked b s private cipher out work answer out' work' → (answer ≡ Ok tt) × (out' ≡ take (length out) msg)
     checked true answer t o =
         sized-out (leb 1 (length out) && leb (length out) s.k1) answer (both (leb 1 (length out)) (leb (length out) s.k1) (true-le 1 (length out) g) (true-le (length out) s.k1 h)) o
     checked false answer t o = absurd (false≢true t)
 
-    of-set : (answer : Answer) → UnwrapOf (Some s) private cipher out work answer out' work' → (answer ≡ Done 0) × (out' ≡ take (length out) msg)
+    of-set : (answer : Opened) → UnwrapOf (Some s) private cipher out work answer out' work' → (answer ≡ Ok tt) × (out' ≡ take (length out) msg)
     of-set answer o =
         checked (open_lengths s (length private) (length cipher) (length work)) answer
         (both _ _ (eq-eqb _ _ G.private_long) (both _ _ (eq-eqb _ _ (sealed-long s ok e named public cipher msg P).0) (eq-eqb _ _ area))) o
 
-    pub unwraps : (answer : Answer) → UnwrapEnds private cipher out work answer out' work' → (answer ≡ Done 0) × (out' ≡ take (length out) msg)
+    pub unwraps : (answer : Opened) → UnwrapEnds private cipher out work answer out' work' → (answer ≡ Ok tt) × (out' ≡ take (length out) msg)
     unwraps answer o = go private refl o
       where
-        go : (k : List ℕ) → k ≡ private → UnwrapEnds k cipher out work answer out' work' → (answer ≡ Done 0) × (out' ≡ take (length out) msg)
+        go : (k : List ℕ) → k ≡ private → UnwrapEnds k cipher out work answer out' work' → (answer ≡ Ok tt) × (out' ≡ take (length out) msg)
         go [] q o = absurd (omega (arith, ap length q, G.private_long, ok.private_is))
         go (byte ∷ k) q o =
             let names : set_of byte ≡ Some s = ap (λ (l : List ℕ). set_of (get_or l 0 0)) q ∙ ap set_of G.private_byte ∙ named in

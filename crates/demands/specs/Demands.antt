@@ -1,6 +1,6 @@
 -- Demand 3 (01, What a contract has to decide here; 02, ticket 10): what is promised of key pairs, over the definitions of the scheme.
 -- All is about byte strings: keys, messages, ciphertexts.
-use Rattle.std.specs.Prelude.{◌≡◌, true, false, List, ℕ, ◌+◌, ◌-◌, ◌*◌, ◌/◌, ◌<◌, eqb, ltb, length, get_or, Some}
+use Rattle.std.specs.Prelude.{◌≡◌, true, false, List, ℕ, ◌+◌, ◌-◌, ◌*◌, ◌/◌, ◌<◌, eqb, ltb, length, get_or, Some, Ok, Err}
 use Rattle.lists.specs.Loops.{pick, tab}
 use Rattle.bits.specs.Bits.{Small}
 use Rattle.sets.specs.declared.Set.{Set}
@@ -13,8 +13,9 @@ use Rattle.scheme.specs.Keys.{WellFormed, public_ge, read}
 use Rattle.scheme.specs.Setup.{made, setup}
 use Rattle.scheme.specs.Sealing.{error_values, ciphertext, block_at, block_seed, block_places, secret_message}
 use Rattle.scheme.specs.Opening.{undone, Singular, Opens}
-use Rattle.scheme.specs.declared.Answer.{Answer}
-use Rattle.scheme.specs.declared.Answer.TheVariants.{Done, UnknownSet, WrongLength, FewMultipliers, FewElements, NoWindow, Dependent, Malformed, Singular as Singular8, ZeroValues, NotOpened, WrongSecret}
+use Rattle.scheme.specs.declared.Refusal.{Refusal}
+use Rattle.scheme.specs.declared.Refusal.TheVariants.{UnknownSet, WrongLength, FewMultipliers, FewElements, NoWindow, Dependent, Malformed, Singular as Singular8, ZeroValues, NotOpened, WrongSecret}
+use Rattle.scheme.specs.Answers.{Answer, Opened}
 use Rattle.scheme.specs.Calls.{zeroed, setup_ends, seal_ends, wrap_ends, OpenEnds, UnwrapEnds}
 
 -- ---- what is sealed
@@ -103,14 +104,14 @@ Demand3 s = (public private : List ℕ) → Ours s public private → Promised s
 -- ---- what the calls promise together (crate `scheme`, Calls: what each call leaves)
 
 -- of a byte string, under a public key: 0 and the message of the triple whose ciphertext it is; 10 and zeros where it is that of none
-pub data Answered (s : Set) (public cipher before : List ℕ) : Answer → List ℕ → Type 0 where
-  opened : {msg : List ℕ} → Sealed s public cipher msg → Answered s public cipher before (Done 0) msg
-  refused : ((msg : List ℕ) → Sealed s public cipher msg → ⊥) → Answered s public cipher before NotOpened (zeroed before)
+pub data Answered (s : Set) (public cipher before : List ℕ) : Opened → List ℕ → Type 0 where
+  opened : {msg : List ℕ} → Sealed s public cipher msg → Answered s public cipher before (Ok tt) msg
+  refused : ((msg : List ℕ) → Sealed s public cipher msg → ⊥) → Answered s public cipher before (Err NotOpened) (zeroed before)
 
 -- opening with our private key answers just that, for every byte string of the ciphertext's length
 abbrev pub OpenAnswers : Set → Type 0
 OpenAnswers s =
-    (public private : List ℕ) → Ours s public private → (cipher out work out' work' : List ℕ) (answer : Answer)
+    (public private : List ℕ) → Ours s public private → (cipher out work out' work' : List ℕ) (answer : Opened)
     → length cipher ≡ s.cipher → Small 8 cipher → length out ≡ s.k1 → length work ≡ s.work
     → OpenEnds private cipher out work answer out' work' → Answered s public cipher out answer out'
 
@@ -118,19 +119,19 @@ OpenAnswers s =
 abbrev pub SealOpens : Set → Type 0
 SealOpens s =
     (public private : List ℕ) → Ours s public private
-    → (random msg cipher work : List ℕ) (b : ℕ) → Small 8 random → Small 8 msg → (seal_ends public random msg cipher work).answer ≡ Done b
-    → (out work₁ out' work' : List ℕ) (answer : Answer) → length out ≡ s.k1 → length work₁ ≡ s.work
+    → (random msg cipher work : List ℕ) (b : ℕ) → Small 8 random → Small 8 msg → (seal_ends public random msg cipher work).answer ≡ Ok b
+    → (out work₁ out' work' : List ℕ) (answer : Opened) → length out ≡ s.k1 → length work₁ ≡ s.work
     → OpenEnds private (seal_ends public random msg cipher work).cipher out work₁ answer out' work'
-    → (answer ≡ Done 0) × (out' ≡ msg)
+    → (answer ≡ Ok tt) × (out' ≡ msg)
 
 -- the same of the KEM pair: what is wrapped unwraps to the secret, told its length
 abbrev pub WrapOpens : Set → Type 0
 WrapOpens s =
     (public private : List ℕ) → Ours s public private
-    → (random secret cipher work : List ℕ) (b : ℕ) → Small 8 random → Small 8 secret → (wrap_ends public random secret cipher work).answer ≡ Done b
-    → (out work₁ out' work' : List ℕ) (answer : Answer) → length out ≡ length secret → length work₁ ≡ s.work
+    → (random secret cipher work : List ℕ) (b : ℕ) → Small 8 random → Small 8 secret → (wrap_ends public random secret cipher work).answer ≡ Ok b
+    → (out work₁ out' work' : List ℕ) (answer : Opened) → length out ≡ length secret → length work₁ ≡ s.work
     → UnwrapEnds private (wrap_ends public random secret cipher work).cipher out work₁ answer out' work'
-    → (answer ≡ Done 0) × (out' ≡ secret)
+    → (answer ≡ Ok tt) × (out' ≡ secret)
 
 -- ---- sealing's choice of a block (01: "A block with any zero error value is passed over")
 
@@ -140,21 +141,25 @@ HasZero s msg random b =
     let block = block_at s random b in
     has (error_values s msg (block_seed s block) (block_places s block)) 0 ≡ true
 
--- what an answer tells of the blocks: block b is used, it has no zero value, and every block before it has one; or (9) all of them have one
+-- what a refusal tells of the blocks: with 9 all of them have one, and the first checks tell nothing
+abbrev pub NotChosen : Set → List ℕ → List ℕ → Refusal → Type 0
+NotChosen s msg random ZeroValues = (i : ℕ) → i < length random / s.block → HasZero s msg random i
+NotChosen s msg random UnknownSet = Unit
+NotChosen s msg random WrongLength = Unit
+NotChosen s msg random WrongSecret = Unit
+NotChosen s msg random FewMultipliers = ⊥
+NotChosen s msg random FewElements = ⊥
+NotChosen s msg random NoWindow = ⊥
+NotChosen s msg random Dependent = ⊥
+NotChosen s msg random Malformed = ⊥
+NotChosen s msg random Singular8 = ⊥
+NotChosen s msg random NotOpened = ⊥
+
+-- what an answer tells of the blocks: block b is used, it has no zero value, and every block before it has one
 abbrev pub Chosen : Set → List ℕ → List ℕ → Answer → Type 0
-Chosen s msg random (Done b) =
+Chosen s msg random (Ok b) =
     (b < length random / s.block) × (HasZero s msg random b → ⊥) × ((i : ℕ) → i < b → HasZero s msg random i)
-Chosen s msg random ZeroValues = (i : ℕ) → i < length random / s.block → HasZero s msg random i
-Chosen s msg random UnknownSet = Unit
-Chosen s msg random WrongLength = Unit
-Chosen s msg random WrongSecret = Unit
-Chosen s msg random FewMultipliers = ⊥
-Chosen s msg random FewElements = ⊥
-Chosen s msg random NoWindow = ⊥
-Chosen s msg random Dependent = ⊥
-Chosen s msg random Malformed = ⊥
-Chosen s msg random Singular8 = ⊥
-Chosen s msg random NotOpened = ⊥
+Chosen s msg random (Err refusal) = NotChosen s msg random refusal
 
 -- so a block is passed over exactly if one of its error values is zero, and 9 is answered exactly if every block is passed over
 abbrev pub SealChooses : Set → Type 0
@@ -171,13 +176,13 @@ WrapChooses s =
 -- each buffer, for all inputs
 abbrev pub OpenOnce : Type 0
 OpenOnce =
-    (key cipher out work : List ℕ) (a a' : Answer) (out₁ out₂ work₁ work₂ : List ℕ)
+    (key cipher out work : List ℕ) (a a' : Opened) (out₁ out₂ work₁ work₂ : List ℕ)
     → OpenEnds key cipher out work a out₁ work₁ → OpenEnds key cipher out work a' out₂ work₂
     → (a ≡ a') × (out₁ ≡ out₂) × (work₁ ≡ work₂)
 
 abbrev pub UnwrapOnce : Type 0
 UnwrapOnce =
-    (key cipher out work : List ℕ) (a a' : Answer) (out₁ out₂ work₁ work₂ : List ℕ)
+    (key cipher out work : List ℕ) (a a' : Opened) (out₁ out₂ work₁ work₂ : List ℕ)
     → UnwrapEnds key cipher out work a out₁ work₁ → UnwrapEnds key cipher out work a' out₂ work₂
     → (a ≡ a') × (out₁ ≡ out₂) × (work₁ ≡ work₂)
 
@@ -189,26 +194,26 @@ abbrev pub SealedArrives : Type 0
 SealedArrives =
     (byte : ℕ) (first public private work : List ℕ) (count : ℕ) → Small 8 first
     → let made = setup_ends byte first public private work in
-    made.answer ≡ Done count
+    made.answer ≡ Ok count
     → (random msg cipher work₁ : List ℕ) (b : ℕ) → Small 8 random → Small 8 msg
     → let sealed = seal_ends made.public random msg cipher work₁ in
-    sealed.answer ≡ Done b
-    → (out work₂ out' work' : List ℕ) (answer : Answer) → length out ≡ length msg → length work₂ ≡ length work
+    sealed.answer ≡ Ok b
+    → (out work₂ out' work' : List ℕ) (answer : Opened) → length out ≡ length msg → length work₂ ≡ length work
     → OpenEnds made.private sealed.cipher out work₂ answer out' work'
-    → (answer ≡ Done 0) × (out' ≡ msg)
+    → (answer ≡ Ok tt) × (out' ≡ msg)
 
 -- and the KEM pair likewise, for secrets of every allowed length
 abbrev pub WrappedArrives : Type 0
 WrappedArrives =
     (byte : ℕ) (first public private work : List ℕ) (count : ℕ) → Small 8 first
     → let made = setup_ends byte first public private work in
-    made.answer ≡ Done count
+    made.answer ≡ Ok count
     → (random secret cipher work₁ : List ℕ) (b : ℕ) → Small 8 random → Small 8 secret
     → let wrapped = wrap_ends made.public random secret cipher work₁ in
-    wrapped.answer ≡ Done b
-    → (out work₂ out' work' : List ℕ) (answer : Answer) → length out ≡ length secret → length work₂ ≡ length work
+    wrapped.answer ≡ Ok b
+    → (out work₂ out' work' : List ℕ) (answer : Opened) → length out ≡ length secret → length work₂ ≡ length work
     → UnwrapEnds made.private wrapped.cipher out work₂ answer out' work'
-    → (answer ≡ Done 0) × (out' ≡ secret)
+    → (answer ≡ Ok tt) × (out' ≡ secret)
 
 -- and every string of the ciphertext's length is answered: by the message of the triple whose ciphertext it is, or by 10
 abbrev pub StringsAnswered : Type 0
@@ -216,8 +221,8 @@ StringsAnswered =
     (byte : ℕ) (s : Set) → set_of byte ≡ Some s
     → (first public private work : List ℕ) (count : ℕ) → Small 8 first
     → let made = setup_ends byte first public private work in
-    made.answer ≡ Done count
-    → (cipher out work₁ out' work' : List ℕ) (answer : Answer)
+    made.answer ≡ Ok count
+    → (cipher out work₁ out' work' : List ℕ) (answer : Opened)
     → length cipher ≡ s.cipher → Small 8 cipher → length out ≡ s.k1 → length work₁ ≡ s.work
     → OpenEnds made.private cipher out work₁ answer out' work' → Answered s made.public cipher out answer out'
 

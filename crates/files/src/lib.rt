@@ -1,10 +1,9 @@
 // What the programs `setup`, `seal` and `open` share: files that their arguments name, and the one line that they print.
 #![tactic(auto)]
 
-ghost use Rattle.std.specs.Prelude.{◌≡◌, ◌≤◌, length, IfOk};
-ghost use Rattle.scheme.specs.Answers.{number_of};
+ghost use Rattle.std.specs.Prelude.{◌≤◌, length, IfOk, IfSome};
 
-use scheme::Answer;
+use scheme::Refusal;
 use std::env::{Env, FillError};
 use std::fs::{File, OpenFile, OpenOptions, Permissions};
 use std::io::{Error, Read, Write};
@@ -24,24 +23,12 @@ const LONG_NAME: i32 = 36;
 
 const NOT_TEXT: i32 = 84;
 
-// What reading a file comes to: whether it went well, and how many bytes of the file are at the start of the slice. If it did not go
-// well, standard error says why.
-#[derive(Clone, Copy)]
-pub struct Input {
-    pub fine: bool,
-    pub count: usize,
-}
-
-// Whether argument i is there; it may be empty.
+/// Whether argument i is there; it may be empty.
 fn has_arg(rt: &impl Env, i: usize) -> bool {
-    let mut none = [0u8; 0];
-    match rt.arg(i, &mut none) {
-        Err(FillError::NotPresent) => false,
-        _ => true,
-    }
+    !matches!(rt.arg(i, &mut []), Err(FillError::NotPresent))
 }
 
-// Whether the program was started with as many arguments as it takes; if not, standard error says how to call it.
+/// Whether the program was started with as many arguments as it takes; if not, standard error says how to call it.
 pub fn called_with(rt: &impl Env, count: usize, usage: &[u8]) -> bool {
     if !has_arg(rt, count) && (count == 0 || has_arg(rt, count - 1)) {
         return true;
@@ -68,17 +55,14 @@ fn fail(rt: &(impl Eprint + Alloc), what: &str, error: Error) {
     let _ = eprintln!(rt; "{what}: {why}");
 }
 
-// Argument i, at the start of the slice.
+/// Argument i, at the start of the slice.
 fn name<'a>(rt: &impl Env, i: usize, buf: &'a mut [u8]) -> std::io::Result<&'a str> {
     let n = match rt.arg(i, buf) {
         Ok(n) => n,
         Err(FillError::NotPresent) => return Err(Error::from_raw_os_error(NO_ARGUMENT)),
         Err(FillError::TooLong) => return Err(Error::from_raw_os_error(LONG_NAME)),
     };
-    match std::str::from_utf8(&buf[..n]) {
-        Ok(text) => Ok(text),
-        Err(_) => Err(Error::from_raw_os_error(NOT_TEXT)),
-    }
+    std::str::from_utf8(&buf[..n]).map_err(|_| Error::from_raw_os_error(NOT_TEXT))
 }
 
 // Reads to the end of the file, or until the slice is full.
@@ -103,33 +87,24 @@ fn read_named(rt: &impl Files, path: &str, buf: &mut [u8]) -> std::io::Result<us
     fill(&mut file, buf)
 }
 
-fn not_read() -> Input
-    ensures { result.count ≡ 0 }
-{
-    Input {
-        fine: false,
-        count: 0,
-    }
-}
-
-// The bytes of the file that argument i names. A file that is longer than the slice fills it, so a slice that is one byte
-// longer than the file should be shows a longer one.
-pub fn read(rt: &(impl Env + Files + Eprint + Alloc), i: usize, buf: &mut [u8]) -> Input
-    ensures { result.count ≤ length buf.old }
+/// The bytes of the file that argument i names, at the start of the slice, and how many they are, or none: then standard error says why.
+/// A file that is longer than the slice fills it, so a slice that is one byte longer than the file should be shows a longer one.
+pub fn read(rt: &(impl Env + Files + Eprint + Alloc), i: usize, buf: &mut [u8]) -> Option<usize>
+    ensures count { IfSome result (λ n. n ≤ length buf.old) }
 {
     let mut space = io::buffer();
     let path = match name(rt, i, &mut space) {
         Ok(path) => path,
         Err(error) => {
             fail(rt, "file name", error);
-            return not_read();
+            return None;
         }
     };
     match read_named(rt, path, buf) {
-        Ok(count) => Input { fine: true, count },
+        Ok(count) => Some(count),
         Err(error) => {
             fail(rt, path, error);
-            not_read()
+            None
         }
     }
 }
@@ -157,7 +132,7 @@ fn write_named(rt: &impl Files, path: &str, bytes: &[u8], secret: bool) -> std::
     file.write_all(bytes)
 }
 
-// Writes the bytes to the file that argument i names and answers true, or says on standard error why not.
+/// Writes the bytes to the file that argument i names and answers true, or says on standard error why not.
 pub fn write(
     rt: &(impl Env + Files + Eprint + Alloc),
     i: usize,
@@ -181,39 +156,19 @@ pub fn write(
     }
 }
 
-// The number of an answer, which stands after `refused`.
-pub fn number(answer: Answer) -> u64
-    ensures { result ≡ number_of answer }
-{
-    match answer {
-        Answer::Done(_) => 0,
-        Answer::UnknownSet => 1,
-        Answer::WrongLength => 2,
-        Answer::FewMultipliers => 3,
-        Answer::FewElements => 4,
-        Answer::NoWindow => 5,
-        Answer::Dependent => 6,
-        Answer::Malformed => 7,
-        Answer::Singular => 8,
-        Answer::ZeroValues => 9,
-        Answer::NotOpened => 10,
-        Answer::WrongSecret => 11,
-    }
-}
-
-// Prints `refused` and the answer's number.
-pub fn print_refused(answer: Answer) {
+/// Prints `refused` and the refusal's number.
+pub fn print_refused(refusal: Refusal) {
     io::write_all(STDOUT, b"refused ");
-    io::print_decimal(STDOUT, number(answer));
+    io::print_decimal(STDOUT, u64::from(u8::from(refusal)));
     io::write_all(STDOUT, b"\n");
 }
 
-// Prints `done`.
+/// Prints `done`.
 pub fn print_done() {
     io::write_all(STDOUT, b"done\n");
 }
 
-// Prints `done` and the count.
+/// Prints `done` and the count.
 pub fn print_count(count: usize) {
     io::write_all(STDOUT, b"done ");
     io::print_decimal(STDOUT, count as u64);

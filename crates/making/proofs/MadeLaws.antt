@@ -26,7 +26,7 @@ use Rattle.gf.specs.Ten.{ten}
 use Rattle.sets.specs.declared.Set.{Set}
 use Rattle.sets.specs.Valid.{key_elements}
 use Rattle.linear.specs.Elimination.{Done, eliminated}
-use Rattle.scheme.specs.declared.Answer.TheVariants.{Dependent}
+use Rattle.scheme.specs.declared.Refusal.TheVariants.{Dependent}
 use Rattle.scheme.specs.Lists.{non_zero, inverse_of}
 use Rattle.scheme.specs.Matrices.{listed}
 use Rattle.scheme.specs.Keys.{Private, public_key, private_key, public_ge, read, WellFormed}

@@ -26,7 +26,7 @@ use Rattle.sets.specs.Valid.{key_elements}
 use Rattle.linear.specs.Matrix.{Matrix}
 use Rattle.linear.specs.Elimination.{Done, eliminated}
 use Rattle.linear.proofs.Laws.{tab-matrix, end-matrix}
-use Rattle.scheme.specs.declared.Answer.TheVariants.{FewMultipliers, FewElements, NoWindow, Dependent}
+use Rattle.scheme.specs.declared.Refusal.TheVariants.{FewMultipliers, FewElements, NoWindow, Dependent}
 use Rattle.scheme.specs.Matrices.{listed, scale_columns, permute_columns, join_columns, multiply_pairs}
 use Rattle.scheme.specs.Setup.{usable, multipliers, block_elements, found, none, blocks, permutation1, permutation2, window, chain, right_part, made, fails, reduced_pair, with_blocks, setup}
 use Rattle.making.specs.Area.{Room, matrix_size, multipliers_at, blocks_at, first_at, second_at, generator_at, Holds}

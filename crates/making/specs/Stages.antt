@@ -7,7 +7,7 @@ use Rattle.perm.specs.Perm.{Perm}
 use Rattle.sets.specs.declared.Set.{Set}
 use Rattle.sets.specs.Valid.{Valid}
 use Rattle.linear.specs.Elimination.{Done, eliminated}
-use Rattle.scheme.specs.declared.Answer.TheVariants.{FewMultipliers as AnswerFewMultipliers, FewElements as AnswerFewElements, NoWindow as AnswerNoWindow, Dependent as AnswerDependent}
+use Rattle.scheme.specs.declared.Refusal.TheVariants.{FewMultipliers as AnswerFewMultipliers, FewElements as AnswerFewElements, NoWindow as AnswerNoWindow, Dependent as AnswerDependent}
 use Rattle.scheme.specs.Lists.{inverse_of}
 use Rattle.scheme.specs.Field.{field_of}
 use Rattle.scheme.specs.Matrices.{listed}

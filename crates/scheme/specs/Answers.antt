@@ -1,10 +1,17 @@
--- 01, Answer numbers: the number and the count that each answer stands for.
-use Rattle.std.specs.Prelude.{ℕ, ◌+◌, ◌*◌}
-use Rattle.scheme.specs.declared.Answer.{Answer}
-use Rattle.scheme.specs.declared.Answer.TheVariants.{Done, UnknownSet, WrongLength, FewMultipliers, FewElements, NoWindow, Dependent, Malformed, Singular, ZeroValues, NotOpened, WrongSecret}
+-- What the calls answer, and the number and the count that stand for each answer.
+use Rattle.std.specs.Prelude.{ℕ, ◌*◌, Result, Ok, Err}
+use Rattle.scheme.specs.declared.Refusal.{Refusal}
+use Rattle.scheme.specs.declared.Refusal.TheVariants.{UnknownSet, WrongLength, FewMultipliers, FewElements, NoWindow, Dependent, Malformed, Singular, ZeroValues, NotOpened, WrongSecret}
 
-abbrev pub number_of : Answer → ℕ
-number_of (Done count) = 0
+-- setup, sealing and wrapping are done, with a count, or refused
+abbrev pub Answer : Type 0
+Answer = Result ℕ Refusal
+
+-- opening and unwrapping are done or refused
+abbrev pub Opened : Type 0
+Opened = Result (Unit {0}) Refusal
+
+abbrev pub number_of : Refusal → ℕ
 number_of UnknownSet = 1
 number_of WrongLength = 2
 number_of FewMultipliers = 3
@@ -17,21 +24,16 @@ number_of ZeroValues = 9
 number_of NotOpened = 10
 number_of WrongSecret = 11
 
--- "A refusal's other numbers are 0"
+-- the count, which is 0 for a refusal
 abbrev pub count_of : Answer → ℕ
-count_of (Done count) = count
-count_of UnknownSet = 0
-count_of WrongLength = 0
-count_of FewMultipliers = 0
-count_of FewElements = 0
-count_of NoWindow = 0
-count_of Dependent = 0
-count_of Malformed = 0
-count_of Singular = 0
-count_of ZeroValues = 0
-count_of NotOpened = 0
-count_of WrongSecret = 0
+count_of (Ok count) = count
+count_of (Err refusal) = 0
 
--- what the C interface returns
+-- what the C interface returns: 256 times the count where the call is done, and the number of a refusal
 abbrev pub coded : Answer → ℕ
-coded a = number_of a + 256 * count_of a
+coded (Ok count) = 256 * count
+coded (Err refusal) = number_of refusal
+
+abbrev pub coded_opened : Opened → ℕ
+coded_opened (Ok _) = 0
+coded_opened (Err refusal) = number_of refusal

@@ -9,8 +9,8 @@ use Rattle.sets.specs.Valid.{setup_elements}
 use Rattle.linear.specs.Matrix.{entry}
 use Rattle.linear.specs.Elimination.{eliminated}
 use Rattle.code.specs.Generator.{generator}
-use Rattle.scheme.specs.declared.Answer.{Answer}
-use Rattle.scheme.specs.declared.Answer.TheVariants.{FewMultipliers, FewElements, NoWindow, Dependent}
+use Rattle.scheme.specs.declared.Refusal.{Refusal}
+use Rattle.scheme.specs.declared.Refusal.TheVariants.{FewMultipliers, FewElements, NoWindow, Dependent}
 use Rattle.scheme.specs.Lists.{non_zero, inverse_of}
 use Rattle.scheme.specs.Field.{field_of}
 use Rattle.scheme.specs.Matrices.{Matrix, listed, scale_columns, permute_columns, join_columns, multiply_pairs}
@@ -122,7 +122,7 @@ inverses F (x ∷ l) = inverse F x ∷ inverses F l
 -- what setup ends with: a key pair and its count p+1, or a refusal
 pub data Made : Type 0 where
   made : (public private : List ℕ) (count : ℕ) → Made
-  fails : Answer → Made
+  fails : Refusal → Made
 
 -- with the blocks A and the window p, after the reduction
 unfoldable pub reduced_pair : Set → List ℕ → List ℕ → ℕ → Made

@@ -1,19 +1,29 @@
-// The definitions of RLCE wrapping (paper 01) stand in specs/; the code that meets them stands in the crates above.
+// The definitions of RLCE wrapping stand in specs/; the code that meets them stands in the crates above.
 #![tactic(auto)]
 
-// What a call answers: done, with its count, or a refusal. `number_of` in specs/ gives paper 01's number of each.
-#[derive(Clone, Copy)]
-pub enum Answer {
-    Done(usize),
-    UnknownSet,
-    WrongLength,
-    FewMultipliers,
-    FewElements,
-    NoWindow,
-    Dependent,
-    Malformed,
-    Singular,
-    ZeroValues,
-    NotOpened,
-    WrongSecret,
+ghost use Rattle.std.specs.Prelude.{◌≡◌};
+ghost use Rattle.scheme.specs.Answers.{number_of};
+
+/// Why a call is refused.
+#[derive(Clone, Copy, Debug, PartialEq, Eq)]
+pub enum Refusal {
+    UnknownSet = 1,
+    WrongLength = 2,
+    FewMultipliers = 3,
+    FewElements = 4,
+    NoWindow = 5,
+    Dependent = 6,
+    Malformed = 7,
+    Singular = 8,
+    ZeroValues = 9,
+    NotOpened = 10,
+    WrongSecret = 11,
+}
+
+impl From<Refusal> for u8 {
+    ghost from_gives = { λ refusal number. number ≡ number_of refusal };
+
+    fn from(refusal: Refusal) -> u8 {
+        refusal as u8
+    }
 }

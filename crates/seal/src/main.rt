@@ -5,50 +5,35 @@
 // with the file as it was.
 #![tactic(auto)]
 
-use lists::wipe_bytes;
-use scheme::Answer;
 use std::rt::Runtime;
 
-fn finish(rt: &impl Runtime, answer: Answer, cipher: &[u8]) {
-    let Answer::Done(count) = answer else {
-        files::print_refused(answer);
-        return;
-    };
-    if files::write(rt, 4, cipher, false) {
-        files::print_count(count);
-    }
-}
-
 fn make(rt: &impl Runtime, key: &[u8], random: &[u8], message: &[u8]) {
-    let mut space = [0u8; 57];
+    let mut cipher = [0u8; 57];
     let mut work = [0u16; 7200];
-    let cipher: &mut [u8] = &mut space;
-    let answer = calls::closing::seal(key, random, message, cipher, &mut work);
-    finish(rt, answer, cipher);
+    match calls::closing::seal(key, random, message, &mut cipher, &mut work) {
+        Ok(block) => {
+            if files::write(rt, 4, &cipher, false) {
+                files::print_count(block);
+            }
+        }
+        Err(refusal) => files::print_refused(refusal),
+    }
 }
 
 fn with_random(rt: &impl Runtime, key: &[u8], random: &[u8]) {
-    let mut space = [0u8; 31];
-    let message: &mut [u8] = &mut space;
-    let input = files::read(rt, 3, message);
-    let n = input.count;
-    let fine = input.fine;
-    if fine {
-        make(rt, key, random, &message[0..n]);
+    let mut message = [0u8; 31];
+    if let Some(n) = files::read(rt, 3, &mut message) {
+        make(rt, key, random, &message[..n]);
     }
-    wipe_bytes(message);
+    message.fill(0);
 }
 
 fn with_key(rt: &impl Runtime, key: &[u8]) {
-    let mut space = [0u8; 385];
-    let random: &mut [u8] = &mut space;
-    let input = files::read(rt, 2, random);
-    let n = input.count;
-    let fine = input.fine;
-    if fine {
-        with_random(rt, key, &random[0..n]);
+    let mut random = [0u8; 385];
+    if let Some(n) = files::read(rt, 2, &mut random) {
+        with_random(rt, key, &random[..n]);
     }
-    wipe_bytes(random);
+    random.fill(0);
 }
 
 // One byte of room more shows a file that is too long.
@@ -56,13 +41,8 @@ fn main(rt: HostRuntime) {
     if !files::called_with(&rt, 5, b"usage: seal PUBLIC RANDOM MESSAGE CIPHER\n") {
         return;
     }
-    let mut space = [0u8; 627];
-    let key: &mut [u8] = &mut space;
-    let input = files::read(&rt, 1, key);
-    let n = input.count;
-    let fine = input.fine;
-    if fine {
-        with_key(&rt, &key[0..n]);
+    let mut key = [0u8; 627];
+    if let Some(n) = files::read(&rt, 1, &mut key) {
+        with_key(&rt, &key[..n]);
     }
-    wipe_bytes(key);
 }

@@ -4,7 +4,7 @@
 
 ghost use Rattle.std.specs.Prelude.{◌≡◌, length};
 
-use scheme::Answer;
+use scheme::Refusal;
 
 // The number of standard output.
 const STDOUT: i32 = 1;
@@ -34,15 +34,17 @@ fn random_room() -> [u8; 48617]
     [0; 48617]
 }
 
-fn print_answer(name: &[u8], answer: Answer) {
+fn print_answer(name: &[u8], answer: Result<usize, Refusal>) {
     vectors::text(name);
-    io::print_decimal(STDOUT, files::number(answer));
-    let Answer::Done(count) = answer else {
-        vectors::text(b"\n");
-        return;
-    };
-    vectors::text(b" count ");
-    io::print_decimal(STDOUT, count as u64);
+    match answer {
+        Ok(count) => {
+            vectors::text(b"0 count ");
+            io::print_decimal(STDOUT, count as u64);
+        }
+        Err(refusal) => {
+            io::print_decimal(STDOUT, u64::from(u8::from(refusal)));
+        }
+    }
     vectors::text(b"\n");
 }
 
@@ -74,7 +76,7 @@ fn seal_message(key: &[u8], message: &[u8], cipher: &mut [u8], work: &mut [u16])
 fn open_message(key: &[u8], cipher: &[u8], work: &mut [u16]) {
     let mut space = [165u8; 504];
     let message: &mut [u8] = &mut space;
-    let answer = calls::disclosing::open(key, cipher, message, work);
+    let answer = calls::disclosing::open(key, cipher, message, work).map(|()| 0);
     print_answer(b"open ", answer);
     print_digest(b"message ", message);
 }

@@ -4,34 +4,22 @@
 // number, with both files as they were.
 #![tactic(auto)]
 
-use lists::wipe_bytes;
-use scheme::Answer;
 use std::rt::Runtime;
 
-// The private key comes first, so that no public key stands alone.
-fn finish(rt: &impl Runtime, answer: Answer, public: &[u8], private: &[u8]) {
-    let Answer::Done(count) = answer else {
-        files::print_refused(answer);
-        return;
-    };
-    if !files::write(rt, 3, private, true) {
-        return;
-    }
-    if !files::write(rt, 2, public, false) {
-        return;
-    }
-    files::print_count(count);
-}
-
 fn make(rt: &impl Runtime, random: &[u8]) {
-    let mut public_space = [0u8; 626];
-    let mut private_space = [0u8; 859];
+    let mut public = [0u8; 626];
+    let mut private = [0u8; 859];
     let mut work = [0u16; 7200];
-    let public: &mut [u8] = &mut public_space;
-    let private: &mut [u8] = &mut private_space;
-    let answer = calls::founding::setup(0x16, random, public, private, &mut work);
-    finish(rt, answer, public, private);
-    wipe_bytes(private);
+    match calls::founding::setup(0x16, random, &mut public, &mut private, &mut work) {
+        // The private key comes first, so that no public key stands alone.
+        Ok(count) => {
+            if files::write(rt, 3, &private, true) && files::write(rt, 2, &public, false) {
+                files::print_count(count);
+            }
+        }
+        Err(refusal) => files::print_refused(refusal),
+    }
+    private.fill(0);
 }
 
 // One byte of room more shows a file that is too long.
@@ -39,13 +27,9 @@ fn main(rt: HostRuntime) {
     if !files::called_with(&rt, 4, b"usage: setup RANDOM PUBLIC PRIVATE\n") {
         return;
     }
-    let mut space = [0u8; 403];
-    let random: &mut [u8] = &mut space;
-    let input = files::read(&rt, 1, random);
-    let n = input.count;
-    let fine = input.fine;
-    if fine {
-        make(&rt, &random[0..n]);
+    let mut random = [0u8; 403];
+    if let Some(n) = files::read(&rt, 1, &mut random) {
+        make(&rt, &random[..n]);
     }
-    wipe_bytes(random);
+    random.fill(0);
 }

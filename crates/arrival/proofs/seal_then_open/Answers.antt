@@ -2,8 +2,8 @@
 use Rattle.arrival.proofs.Ways.{not-sealed, then-opened}
 use Rattle.arrival.proofs.seal_then_open.Goals as goal
 
-pub returns-then-not-is_done : goal.returns-then-not-is_done
-returns-then-not-is_done c = search not-sealed
+pub returns-in-Err : goal.returns-in-Err
+returns-in-Err c = search not-sealed
 
-pub returns : goal.returns
-returns c = search then-opened
+pub returns-in-Ok : goal.returns-in-Ok
+returns-in-Ok c = search then-opened

@@ -1,9 +1,9 @@
--- A pair was made or not; if so, demand 3 says that the message arrives.
+-- A pair was made or not; if so, the secret arrives.
 use Rattle.arrival.proofs.Ways.{way-unwrapped, way-wrapped}
 use Rattle.arrival.proofs.wrap_and_unwrap.Goals as goal
 
-pub returns-then-not-is_done : goal.returns-then-not-is_done
-returns-then-not-is_done c = search way-unwrapped
+pub returns-in-Err : goal.returns-in-Err
+returns-in-Err c = search way-unwrapped
 
-pub returns : goal.returns
-returns c = search way-wrapped
+pub returns-in-Ok : goal.returns-in-Ok
+returns-in-Ok c = search way-wrapped

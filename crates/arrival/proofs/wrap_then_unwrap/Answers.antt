@@ -1,9 +1,9 @@
--- It was sealed or not; if so, what opening ensures is of what was sealed.
+-- It was wrapped or not; if so, what unwrapping ensures is of what was wrapped.
 use Rattle.arrival.proofs.Ways.{not-wrapped, then-unwrapped}
 use Rattle.arrival.proofs.wrap_then_unwrap.Goals as goal
 
-pub returns-then-not-is_done : goal.returns-then-not-is_done
-returns-then-not-is_done c = search not-wrapped
+pub returns-in-Err : goal.returns-in-Err
+returns-in-Err c = search not-wrapped
 
-pub returns : goal.returns
-returns c = search then-unwrapped
+pub returns-in-Ok : goal.returns-in-Ok
+returns-in-Ok c = search then-unwrapped
