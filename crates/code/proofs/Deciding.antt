@@ -21,8 +21,8 @@ use Rattle.gf.proofs.Cyclic.{Cyclic}
 use Rattle.gf.proofs.Elements.{el, plus}
 use Rattle.code.specs.Words.{sum_of, apart}
 use Rattle.code.specs.Decoding.{Near, Lent}
-use Rattle.code.specs.declared.Decoded.{Decoded}
-use Rattle.code.specs.declared.Decoded.TheVariants.{Word, None}
+use Rattle.std.specs.Prelude.{Ok, Err}
+use Rattle.code.specs.declared.Undecodable.{Undecodable}
 use Rattle.code.specs.Area.{word_at, sums_at, locator_at, places_at}
 use Rattle.lists.specs.Parts.{Wrote}
 use Rattle.code.specs.Stages.{AllZero, Summed, value_sum, SumsAdded, Amended, Held, Ready, Placed, SameWord, Corrected, Verdict, Judged, DecodesIn}
@@ -168,13 +168,10 @@ module _ (F : Modulus) (n t : ℕ) (y l l₁ : List ℕ) (A : Lent F n t y l) (W
   part_in : part (word_at t) n l₁ ≡ y
   part_in = part-is (word_at t) n l₁ y (omega (arith, A.room, W.long)) A.long W.there
 
-  pub decodes-word : (l₂ z : List ℕ) (r : Decoded) → length l₂ ≡ length l₁ → DecodesIn F n t l₁ r l₂ → r ≡ Word → z ≡ tab n (λ i. get_or l₂ (word_at t + i) 0) → Near F n t y z
-  decodes-word l₂ z r long D w e =
-      let N : Near F n t (part (word_at t) n l₁) (part (word_at t) n l₂) = rw w at D in
+  pub decodes-word : (l₂ z : List ℕ) → length l₂ ≡ length l₁ → DecodesIn F n t l₁ (Ok tt) l₂ → z ≡ tab n (λ i. get_or l₂ (word_at t + i) 0) → Near F n t y z
+  decodes-word l₂ z long N e =
       let q : part (word_at t) n l₂ ≡ z = part-is (word_at t) n l₂ z (omega (arith, A.room, W.long)) (rw e (length-tab n _)) (λ i h. sym (rw e (get_or-tab n (λ i. get_or l₂ (word_at t + i) 0) i h))) in
       rw (part_in, q) at N
 
-  pub decodes-none : (l₂ : List ℕ) (r : Decoded) → DecodesIn F n t l₁ r l₂ → r ≡ None → (c : List ℕ) → Near F n t y c → ⊥
-  decodes-none l₂ r D e c N =
-      let d : (c : List ℕ) → Near F n t (part (word_at t) n l₁) c → ⊥ = rw e at D in
-      d c (rw part_in N)
+  pub decodes-none : (l₂ : List ℕ) (e : Undecodable) → DecodesIn F n t l₁ (Err e) l₂ → (c : List ℕ) → Near F n t y c → ⊥
+  decodes-none l₂ e D c N = D c (rw part_in N)

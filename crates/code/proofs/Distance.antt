@@ -15,8 +15,8 @@ use Rattle.gf.proofs.Cyclic.{Cyclic}
 use Rattle.gf.proofs.Elements.{el, plus, el-injective, alpha-points}
 use Rattle.code.specs.Words.{CodeWord, weight}
 use Rattle.code.specs.Decoding.{Near, Decodes}
-use Rattle.code.specs.declared.Decoded.{Decoded}
-use Rattle.code.specs.declared.Decoded.TheVariants.{Word, None}
+use Rattle.std.specs.Prelude.{Result, Ok, Err}
+use Rattle.code.specs.declared.Undecodable.{Undecodable}
 use Rattle.code.proofs.Bridge.{K, X, word, zero-of-el, code_is, wt-apart}
 
 module _ {F : Modulus} (field : Cyclic F) (n : ℕ) (fits : n ≤ order F) where
@@ -38,11 +38,11 @@ module _ {F : Modulus} (field : Cyclic F) (n : ℕ) (fits : n ≤ order F) where
       (omega (arith, wt-apart F field n a y, p.close)) (omega (arith, wt-apart F field n b y, q.close)) i g))
 
   -- so what decoding answers and leaves is determined by the word
-  pub decodes-once : (t : ℕ) (y : List ℕ) (r r' : Decoded) (z z' : List ℕ) → Decodes F n t y r z → Decodes F n t y r' z' → (r ≡ r') × (z ≡ z')
-  decodes-once t y Word Word z z' p q = (refl, near-once t y z z' p q)
-  decodes-once t y Word None z z' p q = absurd (q.1 z p)
-  decodes-once t y None Word z z' p q = absurd (p.1 z' q)
-  decodes-once t y None None z z' p q = (refl, p.0 ∙ sym q.0)
+  pub decodes-once : (t : ℕ) (y : List ℕ) (r r' : Result Unit Undecodable) (z z' : List ℕ) → Decodes F n t y r z → Decodes F n t y r' z' → (r ≡ r') × (z ≡ z')
+  decodes-once t y (Ok x) (Ok x') z z' p q = (refl, near-once t y z z' p q)
+  decodes-once t y (Ok x) (Err x') z z' p q = absurd (q.1 z p)
+  decodes-once t y (Err x) (Ok x') z z' p q = absurd (p.1 z' q)
+  decodes-once t y (Err x) (Err x') z z' p q = (refl, p.0 ∙ sym q.0)
 
   -- THEOREM (block). A code word that is zero at k distinct places, where n - k power sums vanish, is zero.
   pub block-zero : (s k : ℕ) (c : List ℕ) (p : ℕ → ℕ) → CodeWord F n s c → n ≤ k + s → Places n k p → ((l : ℕ) → l < k → get_or c (p l) 0 ≡ 0) → (i : ℕ) → i < n → get_or c i 0 ≡ 0

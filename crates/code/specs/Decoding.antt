@@ -3,8 +3,8 @@ use Rattle.std.specs.Prelude.{◌≡◌, List, ℕ, ◌+◌, ◌<◌, ◌≤◌,
 use Rattle.gf.specs.Field.{Modulus, size, order}
 use Rattle.code.specs.Words.{CodeWord, apart}
 use Rattle.code.specs.Area.{decode_room}
-use Rattle.code.specs.declared.Decoded.{Decoded}
-use Rattle.code.specs.declared.Decoded.TheVariants.{Word, None}
+use Rattle.std.specs.Prelude.{Result, Ok, Err}
+use Rattle.code.specs.declared.Undecodable.{Undecodable}
 
 -- c is a code word, for 2t = n - k, at most t places apart from the word y
 pub record Near (F : Modulus) (n t : ℕ) (y c : List ℕ) : Type 0 where
@@ -12,9 +12,9 @@ pub record Near (F : Modulus) (n t : ℕ) (y c : List ℕ) : Type 0 where
   pub close : apart n c y ≤ t
 
 -- from the word y, decoding gives the answer and leaves the word z: the code word near y; or, where none is near, y itself
-abbrev pub Decodes : Modulus → ℕ → ℕ → List ℕ → Decoded → List ℕ → Type 0
-Decodes F n t y Word z = Near F n t y z
-Decodes F n t y None z = (z ≡ y) × ((c : List ℕ) → Near F n t y c → ⊥)
+abbrev pub Decodes : Modulus → ℕ → ℕ → List ℕ → Result Unit Undecodable → List ℕ → Type 0
+Decodes F n t y (Ok x) z = Near F n t y z
+Decodes F n t y (Err x) z = (z ≡ y) × ((c : List ℕ) → Near F n t y c → ⊥)
 
 -- what decoding asks: a word of n elements, n at most the number of points, 2t at most n, and a work area with room
 pub record Lent (F : Modulus) (n t : ℕ) (word work : List ℕ) : Type 0 where

@@ -7,8 +7,8 @@ use Rattle.linear.specs.Elimination.{eliminated}
 use Rattle.linear.specs.Kernel.{kernel_vector}
 use Rattle.code.specs.Words.{sum_of, CodeWord}
 use Rattle.code.specs.Decoding.{Near}
-use Rattle.code.specs.declared.Decoded.{Decoded}
-use Rattle.code.specs.declared.Decoded.TheVariants.{Word, None}
+use Rattle.std.specs.Prelude.{Result, Ok, Err}
+use Rattle.code.specs.declared.Undecodable.{Undecodable}
 use Rattle.code.specs.Area.{word_at, sums_at, locator_at, values_at, points_at, places_at, decode_room}
 
 -- the n numbers from a on are all 0, or one of them is not
@@ -163,6 +163,6 @@ pub record Judged (F : Modulus) (n t : ℕ) (l l' : List ℕ) (r : Bool) : Type 
   pub verdict : Verdict F n t l' r
 
 -- decoding, of the word in the work area
-abbrev pub DecodesIn : Modulus → ℕ → ℕ → List ℕ → Decoded → List ℕ → Type 0
-DecodesIn F n t l Word l' = Near F n t (part (word_at t) n l) (part (word_at t) n l')
-DecodesIn F n t l None l' = (c : List ℕ) → Near F n t (part (word_at t) n l) c → ⊥
+abbrev pub DecodesIn : Modulus → ℕ → ℕ → List ℕ → Result Unit Undecodable → List ℕ → Type 0
+DecodesIn F n t l (Ok x) l' = Near F n t (part (word_at t) n l) (part (word_at t) n l')
+DecodesIn F n t l (Err x) l' = (c : List ℕ) → Near F n t (part (word_at t) n l) c → ⊥

@@ -15,12 +15,9 @@ mod solve;
 mod sums;
 mod values;
 
-// What decoding answers: the code word, or that none is near.
-#[derive(Clone, Copy)]
-pub enum Decoded {
-    Word,
-    None,
-}
+// There is no code word near enough.
+#[derive(Clone, Copy, Debug, PartialEq, Eq)]
+pub struct Undecodable;
 
 // Makes the power sums of the word in the work area ready. Answers whether they are all 0.
 fn judge(s: &mut [u16], n: usize, t: usize) -> bool
@@ -33,36 +30,33 @@ fn judge(s: &mut [u16], n: usize, t: usize) -> bool
 }
 
 // Decodes the word in the work area, in place; whatever else the area holds.
-pub fn decode_in(s: &mut [u16], n: usize, t: usize) -> Decoded
+pub fn decode_in(s: &mut [u16], n: usize, t: usize) -> Result<(), Undecodable>
     requires { Held ten n t s.old }
     ensures { DecodesIn ten n t s.old result s.new }
 {
     if judge(s, n, t) {
-        return Decoded::Word;
+        return Ok(());
     }
     let r = places::find_places(s, n, t);
     values::correct(s, n, t, r);
     if settle::judge_corrected(s, n, t, r) {
-        return Decoded::Word;
+        return Ok(());
     }
-    Decoded::None
+    Err(Undecodable)
 }
 
 // Decodes a word in place: it becomes the code word within t places, where there is one, and else stays as it was. Of
 // the work area `decode_room` numbers are used, whatever they hold.
-pub fn decode(word: &mut [u16], t: usize, work: &mut [u16]) -> Decoded
+pub fn decode(word: &mut [u16], t: usize, work: &mut [u16]) -> Result<(), Undecodable>
     requires { Lent ten (length word.old) t word.old work.old }
     ensures { Decodes ten (length word.old) t word.old result word.new }
 {
     let n = word.len();
     let at = t * (t + 1);
     runs::copy_in(word, work, at);
-    let found = decode_in(work, n, t);
-    let Decoded::Word = found else {
-        return Decoded::None;
-    };
+    decode_in(work, n, t)?;
     runs::copy_out(work, at, word);
-    Decoded::Word
+    Ok(())
 }
 
 // Writes the coefficients of the product of (x - α^i), i = 1..s, into s + 1 numbers.

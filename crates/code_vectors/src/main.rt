@@ -4,7 +4,6 @@
 
 ghost use Rattle.std.specs.Prelude.{◌≡◌, ℕ, ◌+◌, ◌≤◌, ◌<◌, length, get_or};
 
-use code::Decoded;
 use decoder::decoded;
 
 // The number of standard output.
@@ -102,7 +101,7 @@ fn case(area: &mut [u16], work: &mut [u16], n: usize, t: usize, e: usize)
     print_number(t);
     print_number(e);
     let word = &mut area[0..n];
-    let Decoded::Word = decoded(word, t, work) else {
+    let Ok(()) = decoded(word, t, work) else {
         io::write_all(STDOUT, b"none\n");
         return;
     };

@@ -2,22 +2,13 @@
 use mathlib.Core.Path.{◌≡◌, refl}
 use mathlib.Core.Bool.{Bool, true}
 use mathlib.Core.List.{List}
-use Prim.Native.Nat.{ℕ, ◌+◌, ◌*◌, ◌/◌, ◌≤◌, ◌<◌}
+use Prim.Native.Nat.{ℕ, ◌+◌, ◌*◌, ◌/◌, ◌≤◌}
 use native.Mathlib.Nat.{mul-le-mul_right}
 use native.Mathlib.Omega.{arith}
-use lib.ListN.{length, get_or}
-use Rattle.theory.proofs.Place.{at-or}
-use Rattle.gf.specs.Field.{size}
+use lib.ListN.{length}
 use Rattle.gf.specs.Ten.{ten}
 use Rattle.code.specs.Decoding.{Lent}
 use Rattle.decoder.specs.Small.{AllSmall}
-
-module _ (l : List ℕ) (i : ℕ) (z : (k : ℕ) → k < i → get_or l k 0 < size ten) where
-  pub small-more : get_or l i 0 < 1024 → (k : ℕ) → k < i + 1 → get_or l k 0 < size ten
-  small-more e k h = at-or k i (λ q. rw q e) (λ d. z k (omega arith))
-
-  pub small-end : length l ≤ i → (k : ℕ) → k < length l → get_or l k 0 < size ten
-  small-end g k h = z k (omega arith)
 
 pub lent : (t : ℕ) (l w : List ℕ) (b : Bool) → length l ≤ 1023 → t ≤ length l / 2 → t * (t + 1) + 6 * t + 3 * length l + 1 ≤ length w → AllSmall l b → b ≡ true → Lent ten (length l) t l w
 lent t l w b h k r s e =

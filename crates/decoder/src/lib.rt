@@ -5,36 +5,26 @@
 ghost use Rattle.std.specs.Prelude.{◌≡◌};
 ghost use Rattle.decoder.specs.Small.{AllSmall};
 
-use code::Decoded;
+use code::Undecodable;
 
 // Whether each number is a field element.
 fn all_small(word: &[u16]) -> bool
     ensures { AllSmall word.now result }
 {
-    let mut i = 0;
-    while i < word.len() {
-        if word[i] >= 1024 {
-            return false;
-        }
-        i += 1;
-    }
-    true
+    word.iter().all(|x| *x < 1024)
 }
 
-// Decodes a word in place if its length, t, the work area and its elements are such as `code::decode` asks, and answers None if not.
-pub fn decoded(word: &mut [u16], t: usize, work: &mut [u16]) -> Decoded {
+// Decodes a word in place if its length, t, the work area and its elements are such as `code::decode` asks, and refuses it if not.
+pub fn decoded(word: &mut [u16], t: usize, work: &mut [u16]) -> Result<(), Undecodable> {
     let n = word.len();
-    if n > 1023 {
-        return Decoded::None;
-    }
-    if t > n / 2 {
-        return Decoded::None;
+    if n > 1023 || t > n / 2 {
+        return Err(Undecodable);
     }
     if work.len() < t * (t + 1) + 6 * t + 3 * n + 1 {
-        return Decoded::None;
+        return Err(Undecodable);
     }
-    if all_small(word) {
-        return code::decode(word, t, work);
+    if !all_small(word) {
+        return Err(Undecodable);
     }
-    Decoded::None
+    code::decode(word, t, work)
 }

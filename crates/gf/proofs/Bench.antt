@@ -1,4 +1,4 @@
--- The field's cases of 01, Bench values, from the definitions, by computation.
+-- Known products and an inverse, from the definitions, by computation.
 use mathlib.Core.Path.{◌≡◌, refl}
 use Rattle.gf.specs.Field.{times_x, act, mul}
 use Rattle.gf.specs.Ten.{ten}

@@ -1,8 +1,7 @@
 -- Powers, and the inverse by squares: a ^ (2 ^ m - 2) is the product of a ^ 2, a ^ 4, .., a ^ (2 ^ (m - 1)).
 use mathlib.Core.Path.{◌≡◌, refl, sym, ap, ◌∙◌}
-use Prim.Native.Nat.{ℕ, zero, suc, ◌-◌, ◌*◌, ◌^◌, ◌<◌, ◌≤◌}
-use native.Mathlib.Nat.{zero-mul, pow-suc, not-suc-le-zero}
-use native.Mathlib.Numerals.{sub-one}
+use Prim.Native.Nat.{ℕ, zero, suc, ◌+◌, ◌-◌, ◌*◌, ◌^◌, ◌<◌, ◌≤◌}
+use native.Mathlib.Nat.{zero-mul, pow-suc}
 use native.Mathlib.Omega.{arith}
 use lib.Pow.{pow_pos}
 use Rattle.gf.specs.Field.{Modulus, size, mul, power, inverse}
@@ -40,17 +39,19 @@ module _ (F : Modulus) where
   squares-lt zero s = one-lt F
   squares-lt (suc n) s = mul-lt F (mul F s s) (squares F n (mul F s s))
 
-  -- ---- a loop that counts n down, with r multiplied up so far: before it, one turn, after it
+  -- ---- a loop of n turns, with r multiplied up so far: before it, one turn, after it
   pub squares-all : (a : ℕ) → mul F 1 (squares F F.k a) ≡ inverse F a
   unfolding inverse
   squares-all a = mul-one-left F (squares F F.k a) (squares-lt F.k a) ∙ squares-power F.k a
 
-  pub squares-more : (n r s a r' s' : ℕ) → mul F r (squares F n s) ≡ inverse F a → 0 < n → s' ≡ mul F s s → r' ≡ mul F r s' → mul F r' (squares F (n - 1) s') ≡ inverse F a
+  pub squares-more : (n i r s a r' s' : ℕ) → mul F r (squares F (n - i) s) ≡ inverse F a → i < n → s' ≡ mul F s s → r' ≡ mul F r s' → mul F r' (squares F (n - (i + 1)) s') ≡ inverse F a
   unfolding squares
-  squares-more zero r s a r' s' e h p q = absurd (not-suc-le-zero h)
-  squares-more (suc n) r s a r' s' e h p q = rw (sub-one (suc n), q, p) (mul_assoc F r (mul F s s) (squares F n (mul F s s)) ∙ e)
+  squares-more n i r s a r' s' e h p q =
+      let left : n - i ≡ suc (n - (i + 1)) = omega arith in
+      rw (q, p) (mul_assoc F r (mul F s s) (squares F (n - (i + 1)) (mul F s s)) ∙ (rw left at e))
 
-  pub squares-end : (n r s a : ℕ) → mul F r (squares F n s) ≡ inverse F a → r < size F → n ≤ 0 → r ≡ inverse F a
+  pub squares-end : (n i r s a : ℕ) → mul F r (squares F (n - i) s) ≡ inverse F a → r < size F → n ≤ i → r ≡ inverse F a
   unfolding squares
-  squares-end zero r s a e h g = sym (mul-one-right F r h) ∙ e
-  squares-end (suc n) r s a e h g = absurd (not-suc-le-zero g)
+  squares-end n i r s a e h g =
+      let none : n - i ≡ 0 = omega arith in
+      sym (mul-one-right F r h) ∙ (rw none at e)

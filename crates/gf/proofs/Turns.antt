@@ -1,9 +1,9 @@
 -- Laws of the runs, for the loops that compute them: one more element, from what the loop's turn has stored.
 use mathlib.Core.Path.{◌≡◌}
 use mathlib.Core.List.{List}
-use Prim.Native.Nat.{ℕ, ◌+◌, ◌≤◌}
+use Prim.Native.Nat.{ℕ, ◌+◌}
 use lib.ListN.{get_or, set}
-use Rattle.lists.proofs.Loops.{turns-none, turns_more, turns-end}
+use Rattle.lists.proofs.Loops.{turns-none, turns_more}
 use Rattle.gf.specs.Field.{Modulus, ◌⊕◌, mul}
 use Rattle.gf.specs.Runs.{add_at, add_run, scale_at, scale_run, mul_at, mul_run}
 use Rattle.gf.proofs.Ring.{mul_comm}
@@ -17,10 +17,6 @@ module _ (F : Modulus) (dst src f : ℕ) (s₀ : List ℕ) where
   unfolding add_run
   add-more i s r e q = rw q (turns_more (add_at F dst src f) i s₀ s e)
 
-  pub add-end : (n i : ℕ) (s : List ℕ) → s ≡ add_run F dst src i f s₀ → i ≤ n → n ≤ i → s ≡ add_run F dst src n f s₀
-  unfolding add_run
-  add-end n i s = turns-end (add_at F dst src f) n i s₀ s
-
 module _ (F : Modulus) (at f : ℕ) (s₀ : List ℕ) where
   pub scale-none : s₀ ≡ scale_run F at 0 f s₀
   unfolding scale_run
@@ -30,10 +26,6 @@ module _ (F : Modulus) (at f : ℕ) (s₀ : List ℕ) where
   unfolding scale_run
   scale-more i s r e q = rw q (turns_more (scale_at F at f) i s₀ s e)
 
-  pub scale-end : (n i : ℕ) (s : List ℕ) → s ≡ scale_run F at i f s₀ → i ≤ n → n ≤ i → s ≡ scale_run F at n f s₀
-  unfolding scale_run
-  scale-end n i s = turns-end (scale_at F at f) n i s₀ s
-
 module _ (F : Modulus) (dst src : ℕ) (s₀ : List ℕ) where
   pub mul-none : s₀ ≡ mul_run F dst src 0 s₀
   unfolding mul_run
@@ -42,7 +34,3 @@ module _ (F : Modulus) (dst src : ℕ) (s₀ : List ℕ) where
   pub mul-more : (i : ℕ) (s : List ℕ) (r : ℕ) → s ≡ mul_run F dst src i s₀ → r ≡ mul F (get_or s (src + i) 0) (get_or s (dst + i) 0) → set s (dst + i) r ≡ mul_run F dst src (i + 1) s₀
   unfolding mul_run
   mul-more i s r e q = rw (q, mul_comm F (get_or s (src + i) 0) (get_or s (dst + i) 0)) (turns_more (mul_at F dst src) i s₀ s e)
-
-  pub mul-end : (n i : ℕ) (s : List ℕ) → s ≡ mul_run F dst src i s₀ → i ≤ n → n ≤ i → s ≡ mul_run F dst src n s₀
-  unfolding mul_run
-  mul-end n i s = turns-end (mul_at F dst src) n i s₀ s

@@ -1,5 +1,5 @@
 -- The field of 2 ^ m elements: polynomials over the two numbers 0 and 1, modulo x ^ m + low.
--- An element is a number below 2 ^ m, whose binary digit i is the coefficient of x ^ i (01, Field and bits).
+-- An element is a number below 2 ^ m, whose binary digit i is the coefficient of x ^ i.
 -- The set's m is `width`; m is written suc k where a definition counts down.
 use Rattle.std.specs.Prelude.{ℕ, zero, suc, ◌-◌, ◌*◌, ◌/◌, ◌%◌, ◌^◌, ◌<◌, ◌≡◌}
 use Rattle.std.specs.Int.Bits.{bit_xor}

@@ -1,41 +1,29 @@
-// The field calls (01, Field and bits), each with its own yes or no. A number of 1024 or more is no element: the answer is no.
+// The field calls, each with its own yes or no. A number of 1024 or more is no element: the answer is None.
 ghost use Rattle.std.specs.Prelude.{◌≡◌, ◌<◌};
 ghost use Rattle.gf.specs.Field.{size, mul};
 ghost use Rattle.gf.specs.Ten.{ten};
-ghost use Rattle.gf.specs.Answers.{answered, sum_answer, product_answer, inverse_answer, power_answer, LogarithmAnswer};
+ghost use Rattle.gf.specs.Answers.{sum_answer, product_answer, inverse_answer, power_answer, LogarithmAnswer};
 
 use crate::logs::log_at;
 use crate::pows::pow_at;
 
-// A call's yes, with its number, or no.
-#[derive(Clone, Copy)]
-pub enum Elem {
-    Yes(u16),
-    No,
-}
-
 // the sum of two elements
-pub fn sum(a: u16, b: u16) -> Elem
-    ensures { answered result ≡ sum_answer a b }
+pub fn sum(a: u16, b: u16) -> Option<u16>
+    ensures { result ≡ sum_answer a b }
 {
-    if a >= 1024 {
-        return Elem::No;
+    if a >= 1024 || b >= 1024 {
+        return None;
     }
-    if b >= 1024 {
-        return Elem::No;
-    }
-    Elem::Yes(a ^ b)
+    Some(a ^ b)
 }
 
 // the product of two elements, by the tables: the logarithms are added modulo 1023
 fn by_tables(a: u16, b: u16) -> u16
-    requires { (a < size ten) × (b < size ten) }
+    requires a_in { a < size ten }
+    requires b_in { b < size ten }
     ensures { result ≡ mul ten a b }
 {
-    if a == 0 {
-        return 0;
-    }
-    if b == 0 {
+    if a == 0 || b == 0 {
         return 0;
     }
     let i = log_at(a as usize);
@@ -44,50 +32,41 @@ fn by_tables(a: u16, b: u16) -> u16
 }
 
 // the product of two elements
-pub fn product(a: u16, b: u16) -> Elem
-    ensures { answered result ≡ product_answer a b }
+pub fn product(a: u16, b: u16) -> Option<u16>
+    ensures { result ≡ product_answer a b }
 {
-    if a >= 1024 {
-        return Elem::No;
+    if a >= 1024 || b >= 1024 {
+        return None;
     }
-    if b >= 1024 {
-        return Elem::No;
-    }
-    Elem::Yes(by_tables(a, b))
+    Some(by_tables(a, b))
 }
 
 // the inverse of an element; of 0 there is none
-pub fn inverse(a: u16) -> Elem
-    ensures { answered result ≡ inverse_answer a }
+pub fn inverse(a: u16) -> Option<u16>
+    ensures { result ≡ inverse_answer a }
 {
-    if a >= 1024 {
-        return Elem::No;
+    if a >= 1024 || a == 0 {
+        return None;
     }
-    if a == 0 {
-        return Elem::No;
-    }
-    Elem::Yes(crate::reciprocal(a))
+    Some(crate::reciprocal(a))
 }
 
 // the logarithm of an element, 0 to 1022; of 0 there is none
-pub fn logarithm(a: u16) -> Elem
-    ensures { LogarithmAnswer a (answered result) }
+pub fn logarithm(a: u16) -> Option<u16>
+    ensures { LogarithmAnswer a result }
 {
-    if a >= 1024 {
-        return Elem::No;
+    if a >= 1024 || a == 0 {
+        return None;
     }
-    if a == 0 {
-        return Elem::No;
-    }
-    Elem::Yes(log_at(a as usize))
+    Some(log_at(a as usize))
 }
 
 // α to the i, for i from 0 to 1023
-pub fn power(i: u16) -> Elem
-    ensures { answered result ≡ power_answer i }
+pub fn power(i: u16) -> Option<u16>
+    ensures { result ≡ power_answer i }
 {
     if i >= 1024 {
-        return Elem::No;
+        return None;
     }
-    Elem::Yes(crate::power(i as usize))
+    Some(crate::power(i as usize))
 }

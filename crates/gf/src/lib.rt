@@ -1,6 +1,6 @@
-// The field GF(2^10) (01, Field and bits): elements are numbers below 1024, addition is exclusive or, α is 2.
-// For the layers above: functions on elements and kernels on runs of a lent slice, total on all numbers, with no table indexed by a value
-// but in `power`. For users: the field calls in `calls`, with their own yes or no.
+// The field GF(2^10), modulo x^10 + x^3 + 1: elements are numbers below 1024, addition is exclusive or, α is 2.
+// For the layers above: functions on elements and kernels on rows and runs, total on all numbers, with no table indexed by a value
+// but in `power`. For users: the field calls in `calls`, which refuse what is no element.
 #![tactic(auto)]
 
 ghost use Rattle.std.specs.Prelude.{◌≡◌, ℕ, ◌+◌, ◌*◌, ◌%◌, ◌<◌, ◌≤◌, length};
@@ -74,29 +74,30 @@ fn combine(t: [u16; 10], v: u16) -> u16
 
 // the product, with no table and no branch: of a number past the field its ten low digits count
 pub fn product(a: u16, b: u16) -> u16
-    ensures { (result ≡ mul ten a b) × (result < size ten) }
+    ensures value { result ≡ mul ten a b }
+    ensures small { result < size ten }
 {
     combine(multiples(b), a)
 }
 
 // the inverse, with no table and no branch on the value: a ^ 1022, the product of a ^ 2, a ^ 4, .., a ^ 512; 0 at 0
 pub fn reciprocal(a: u16) -> u16
-    ensures { (result ≡ inverse ten a) × (result < size ten) }
+    ensures value { result ≡ inverse ten a }
+    ensures small { result < size ten }
 {
     let mut r: u16 = 1;
     let mut s = a;
-    let mut n: usize = 9;
-    while 0 < n {
+    for _ in 0..9usize {
         s = product(s, s);
         r = product(r, s);
-        n -= 1;
     }
     r
 }
 
 // α to the i, for every i
 pub fn power(i: usize) -> u16
-    ensures { (result ≡ alpha ten i) × (result < size ten) }
+    ensures value { result ≡ alpha ten i }
+    ensures small { result < size ten }
 {
     pow_at(i % 1023)
 }
@@ -127,39 +128,35 @@ pub fn multiply(row: &mut [u16], by: &[u16])
 
 // f times the n elements from src on, added to those from dst on
 pub fn add_run(s: &mut [u16], dst: usize, src: usize, n: usize, f: u16)
-    requires { (dst + n ≤ length s.old) × (src + n ≤ length s.old) }
+    requires dst_fits { dst + n ≤ length s.old }
+    requires src_fits { src + n ≤ length s.old }
     ensures { s.new ≡ add_run ten dst src n f s.old }
 {
     let t = multiples(f);
-    let mut i = 0;
-    while i < n {
-        s[dst + i] = s[dst + i] ^ combine(t, s[src + i]);
-        i += 1;
+    for i in 0..n {
+        s[dst + i] ^= combine(t, s[src + i]);
     }
 }
 
 // the n elements from `at` on, times f
 pub fn scale_run(s: &mut [u16], at: usize, n: usize, f: u16)
-    requires { at + n ≤ length s.old }
+    requires fits { at + n ≤ length s.old }
     ensures { s.new ≡ scale_run ten at n f s.old }
 {
     let t = multiples(f);
-    let mut i = 0;
-    while i < n {
+    for i in 0..n {
         s[at + i] = combine(t, s[at + i]);
-        i += 1;
     }
 }
 
 // the n elements from dst on, each times its partner among those from src on
 pub fn mul_run(s: &mut [u16], dst: usize, src: usize, n: usize)
-    requires { (dst + n ≤ length s.old) × (src + n ≤ length s.old) }
+    requires dst_fits { dst + n ≤ length s.old }
+    requires src_fits { src + n ≤ length s.old }
     ensures { s.new ≡ mul_run ten dst src n s.old }
 {
-    let mut i = 0;
-    while i < n {
+    for i in 0..n {
         let t = multiples(s[src + i]);
         s[dst + i] = combine(t, s[dst + i]);
-        i += 1;
     }
 }

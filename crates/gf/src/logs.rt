@@ -1,4 +1,4 @@
-// The logarithms (01, Field and bits): at the place a, the power of α that is a. Nothing reads the entry at 0.
+// The logarithms: at the place a, the power of α that is a. Nothing reads the entry at 0.
 // `scripts/field-tables` writes it.
 ghost use Rattle.std.specs.Prelude.{◌<◌};
 ghost use Rattle.gf.specs.Field.{size, Logarithm};

@@ -1,4 +1,4 @@
-// The powers of α (01, Field and bits): a table of 1023 entries, each the previous times α.
+// The powers of α: a table of 1023 entries, each the previous times α.
 // `scripts/field-tables` writes it.
 ghost use Rattle.std.specs.Prelude.{◌≡◌, ◌<◌};
 ghost use Rattle.gf.specs.Field.{order, alpha};

@@ -39,10 +39,9 @@ lead-clear F cols c i most m l k lead hk d j h =
     (λ n. clear-elsewhere F cols c i m c j (λ e. n (sym e)) (omega arith) ∙ lead j h))
 
 -- one more column
-pub reduced-more : (rows cols limit c p most : ℕ) (m l : List ℕ) (k : ℕ) → Reduced ten rows cols c m → c < limit → limit ≤ cols → c ≤ p → p ≤ rows → (p ≡ rows → ⊥) → p ≡ pivot_row rows cols c m → Did (reduce_column ten rows cols c p m) most l k
+pub reduced-more : (rows cols limit c p most : ℕ) (m l : List ℕ) (k : ℕ) → Reduced ten rows cols c m → c < limit → limit ≤ cols → c ≤ p → p < rows → p ≡ pivot_row rows cols c m → Did (reduce_column ten rows cols c p m) most l k
     → Reduced ten rows cols (c + 1) l
-reduced-more rows cols limit c p most m l k R h g le a b q d =
-    let hp : p < rows = omega arith in
+reduced-more rows cols limit c p most m l k R h g le hp q d =
     let hc : c < rows = omega arith in
     let le₂ : c ≤ rows = omega arith in
     let lt : pivot_row rows cols c m < rows = omega arith in

@@ -6,7 +6,8 @@ use native.Mathlib.Omega.{arith}
 use borrow.Author.Tests.{eq-eqb, ne_eqb, lt-ltb, le-ltb}
 use Rattle.lists.specs.Loops.{tab}
 use Rattle.gf.specs.Ten.{ten}
-use Rattle.linear.specs.declared.inverse.Inverse.TheVariants.{Found, Singular}
+use Rattle.std.specs.Prelude.{Ok, Err}
+use Rattle.linear.specs.declared.inverse.Singular.{Singular}
 use Rattle.linear.specs.Matrix.{Matrix, entry}
 use Rattle.linear.specs.Elimination.{Done, Ended, eliminated}
 use Rattle.linear.specs.Inverse.{LeftHalf, beside, inverted, Inverts}
@@ -32,12 +33,12 @@ module _ (n : ℕ) (l₀ l₁ : List ℕ) (b : l₁ ≡ beside n l₀) where
   invert-ready H = rw b (beside-matrix n l₀ ten H)
 
   module _ (l₂ : List ℕ) (r k : ℕ) (e : Ended (eliminated ten n (n + n) n l₁) n l₂ r k) where
-    pub invert-found : n ≤ r → Inverts n (inverted ten n l₀) l₂ Found
+    pub invert-found : n ≤ r → Inverts n (inverted ten n l₀) l₂ (Ok tt)
     unfolding inverted
     invert-found h =
         let q : r ≡ n = omega (arith, e.within) in
         rw (← b) (record { mat = e.mat; answer = sym e.cols ∙ q })
 
-    pub invert-singular : r < n → Inverts n (inverted ten n l₀) l₂ Singular
+    pub invert-singular : (e : Singular) → r < n → Inverts n (inverted ten n l₀) l₂ (Err e)
     unfolding inverted
-    invert-singular h = rw (← b) (record { mat = e.mat; answer = rw (← e.cols) h })
+    invert-singular _ h = rw (← b) (record { mat = e.mat; answer = rw (← e.cols) h })

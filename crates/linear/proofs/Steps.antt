@@ -1,5 +1,5 @@
 -- The code's steps are the definition's. Each premise is as the code's own calls, tests and invariants give it.
-use mathlib.Core.Path.{◌≡◌, refl, ◌∙◌}
+use mathlib.Core.Path.{◌≡◌, refl, sym, ◌∙◌}
 use mathlib.Core.Bool.{true, false, not}
 use mathlib.Core.List.{List}
 use Prim.Native.Nat.{ℕ, suc, ◌+◌, ◌*◌, ◌-◌, ◌<◌, ◌≤◌}
@@ -7,6 +7,9 @@ use native.Mathlib.Nat.{mul-le-mul_right, suc-mul}
 use native.Mathlib.Numerals.{add-one}
 use native.Mathlib.Omega.{arith}
 use lib.Dec.{eqb}
+use lib.ListN.{length}
+use Rattle.std.specs.List.{swap}
+use Rattle.std.proofs.lemmas.List.Edits.{swap_is}
 use borrow.Author.Tests.{eq-eqb, ne_eqb, lt-ltb, le-ltb}
 use Rattle.lists.specs.Loops.{turns}
 use Rattle.lists.proofs.Loops.{turns_more, left-suc}
@@ -39,8 +42,8 @@ usable-true x y e h = rw (← e, ne_eqb y 0 h)
 pub usable-false : (x y : ℕ) → y ≡ x → y ≡ 0 → not (eqb x 0) ≡ false
 usable-false x y e h = rw (← e, eq-eqb y 0 h)
 
-pub swap-more : (k : ℕ) (l₀ l : List ℕ) (a b : ℕ) → l ≡ turns (swap_at a b) k l₀ → swap_at a b k l ≡ turns (swap_at a b) (k + 1) l₀
-swap-more k l₀ l a b e = turns_more _ k l₀ l e
+pub swap-more : (k n : ℕ) (l₀ l : List ℕ) (a b : ℕ) → l ≡ turns (swap_at a b) k l₀ → k < n → a + n ≤ length l → b + n ≤ length l → swap l (a + k) (b + k) ≡ turns (swap_at a b) (k + 1) l₀
+swap-more k n l₀ l a b e h x y = sym (swap_is l (a + k) (b + k) 0 (omega arith) (omega arith)) ∙ turns_more (swap_at a b) k l₀ l e
 
 -- ---- the steps of a column
 module _ (cols p c : ℕ) (l : List ℕ) where
@@ -91,25 +94,24 @@ reduce-does F rows cols c p l₀ l₁ l₂ l₃ a b d x y z = record {
 
 module _ (F : Modulus) (rows cols limit c : ℕ) (l : List ℕ) (ops : ℕ) (whole : Done) (left : whole ≡ eliminate_from F rows cols (limit - c) c l ops) where
   -- a turn with a pivot in row p, which leaves the list l' and counts k
-  pub elim-again : (p : ℕ) → c < limit → p ≡ pivot_row rows cols c l → p ≤ rows → (p ≡ rows → ⊥) → (most : ℕ) (l' : List ℕ) (k : ℕ) → Did (reduce_column F rows cols c p l) most l' k
+  pub elim-again : (p : ℕ) → c < limit → p ≡ pivot_row rows cols c l → p < rows → (most : ℕ) (l' : List ℕ) (k : ℕ) → Did (reduce_column F rows cols c p l) most l' k
       → whole ≡ eliminate_from F rows cols (limit - (c + 1)) (c + 1) l' (ops + k)
   unfolding eliminate_from
-  elim-again p h q le ne most l' k d =
-      let lt : p < rows = omega arith in
+  elim-again p h q lt most l' k d =
       left ∙ rw (left-suc limit c h, ← q, lt-ltb p rows lt, add-one c, d.mat, d.ops)
 
   -- a turn with no pivot
-  pub elim-stop : (p : ℕ) → c < limit → p ≡ pivot_row rows cols c l → p ≡ rows → Ended whole limit l c ops
+  pub elim-stop : c < limit → rows ≡ pivot_row rows cols c l → Ended whole limit l c ops
   unfolding eliminate_from
-  elim-stop p h q e =
-      let le : rows ≤ p = omega arith in
-      let w : whole ≡ record { mat = l; cols = c; ops = ops } = left ∙ rw (left-suc limit c h, ← q, le-ltb p rows le) in
+  elim-stop h q =
+      let le : rows ≤ rows = omega arith in
+      let w : whole ≡ record { mat = l; cols = c; ops = ops } = left ∙ rw (left-suc limit c h, ← q, le-ltb rows rows le) in
       rw w (record { mat = refl; cols = refl; ops = refl; within = omega arith })
 
   -- after the last turn
-  pub elim-end : c ≤ limit → limit ≤ c → Ended whole limit l c ops
+  pub elim-end : c ≡ limit → Ended whole limit l limit ops
   unfolding eliminate_from
-  elim-end h g =
+  elim-end e =
       let z : limit - c ≡ 0 = omega arith in
-      let w : whole ≡ record { mat = l; cols = c; ops = ops } = left ∙ rw z in
+      let w : whole ≡ record { mat = l; cols = limit; ops = ops } = left ∙ rw (z, e) in
       rw w (record { mat = refl; cols = refl; ops = refl; within = omega arith })

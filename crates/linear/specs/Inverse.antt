@@ -1,10 +1,9 @@
--- The inverse of a square matrix (01, opening: solving with W). It stands in the left half of n rows of 2n; the identity matrix comes
+-- The inverse of a square matrix. It stands in the left half of n rows of 2n; the identity matrix comes
 -- beside it, and elimination of the left half turns the right half into the inverse.
-use Rattle.std.specs.Prelude.{◌≡◌, List, ℕ, ◌+◌, ◌*◌, ◌≤◌, ◌<◌, eqb, length, set}
+use Rattle.std.specs.Prelude.{◌≡◌, List, ℕ, ◌+◌, ◌*◌, ◌≤◌, ◌<◌, eqb, length, set, Result, Ok, Err}
 use Rattle.lists.specs.Loops.{pick, turns}
 use Rattle.gf.specs.Field.{Modulus, size}
-use Rattle.linear.specs.declared.inverse.Inverse.{Inverse}
-use Rattle.linear.specs.declared.inverse.Inverse.TheVariants.{Found, Singular}
+use Rattle.linear.specs.declared.inverse.Singular.{Singular}
 use Rattle.linear.specs.Matrix.{entry}
 use Rattle.linear.specs.Elimination.{Done, eliminated}
 
@@ -38,11 +37,11 @@ unfoldable pub inverted : Modulus → ℕ → List ℕ → Done
 inverted F n l = eliminated F n (n + n) n (beside n l)
 
 -- found where all n columns are done
-abbrev pub FoundAt : ℕ → ℕ → Inverse → Type 0
-FoundAt n c Found = c ≡ n
-FoundAt n c Singular = c < n
+abbrev pub FoundAt : ℕ → ℕ → Result Unit Singular → Type 0
+FoundAt n c (Ok x) = c ≡ n
+FoundAt n c (Err e) = c < n
 
 -- inverting left the list l and answered r, as d says
-pub record Inverts (n : ℕ) (d : Done) (l : List ℕ) (r : Inverse) : Type 0 where
+pub record Inverts (n : ℕ) (d : Done) (l : List ℕ) (r : Result Unit Singular) : Type 0 where
   pub mat : l ≡ d.mat
   pub answer : FoundAt n d.cols r

@@ -2,7 +2,7 @@
 // square matrix, a vector of the kernel.
 #![tactic(auto)]
 
-ghost use Rattle.std.specs.Prelude.{◌≡◌, ◌+◌, ◌*◌, ◌<◌, ◌≤◌, length};
+ghost use Rattle.std.specs.Prelude.{◌≡◌, ◌≢◌, ◌+◌, ◌*◌, ◌<◌, ◌≤◌, length, IfSome, IfNone};
 ghost use Rattle.gf.specs.Ten.{ten};
 ghost use Rattle.linear.specs.Matrix.{Matrix, entry, swap_run};
 ghost use Rattle.linear.specs.Elimination.{Did, Ended, pivot_row, place_pivot, scale_pivot, clear_row, clear_column, reduce_column, eliminated};
@@ -13,47 +13,45 @@ pub mod kernel;
 
 // Exchanges the n elements from a on with those from b on.
 fn swap_runs(m: &mut [u16], a: usize, b: usize, n: usize)
-    requires { (a + n ≤ length m.old) × (b + n ≤ length m.old) }
+    requires a_fits { a + n ≤ length m.old }
+    requires b_fits { b + n ≤ length m.old }
     ensures { m.new ≡ swap_run a b n m.old }
 {
-    let mut k = 0;
-    while k < n {
-        let i = a + k;
-        let j = b + k;
-        let x = m[i];
-        let y = m[j];
-        m[i] = y;
-        m[j] = x;
-        k += 1;
+    for k in 0..n {
+        m.swap(a + k, b + k);
     }
 }
 
 // The entry at row i, column j.
 fn at(m: &[u16], cols: usize, i: usize, j: usize) -> u16
-    requires { i * cols + j < length m.now }
+    requires within { i * cols + j < length m.now }
     ensures { result ≡ entry cols m.now i j }
 {
     m[i * cols + j]
 }
 
-// The first row from c down with a non-zero entry in column c, or rows where there is none.
-fn find_pivot(m: &[u16], rows: usize, cols: usize, c: usize) -> usize
-    requires { (rows * cols ≤ length m.now) × (c < cols) × (c ≤ rows) }
-    ensures { (result ≡ pivot_row rows cols c m.now) × (c ≤ result) × (result ≤ rows) }
+// The first row from c down with a non-zero entry in column c.
+fn find_pivot(m: &[u16], rows: usize, cols: usize, c: usize) -> Option<usize>
+    requires fits { rows * cols ≤ length m.now }
+    requires column { c < cols }
+    requires row { c ≤ rows }
+    ensures found { IfSome result (λ p. p ≡ pivot_row rows cols c m.now) }
+    ensures from { IfSome result (λ p. c ≤ p) }
+    ensures usable { IfSome result (λ p. p < rows) }
+    ensures none { IfNone result (rows ≡ pivot_row rows cols c m.now) }
 {
-    let mut i = c;
-    while i < rows {
+    for i in c..rows {
         if at(m, cols, i, c) != 0 {
-            return i;
+            return Some(i);
         }
-        i += 1;
     }
-    rows
+    None
 }
 
 // Brings row p to row c, unless it is there. Answers the number of row operations.
 fn place_pivot(m: &mut [u16], cols: usize, p: usize, c: usize) -> usize
-    requires { (p * cols + cols ≤ length m.old) × (c * cols + cols ≤ length m.old) }
+    requires p_fits { p * cols + cols ≤ length m.old }
+    requires c_fits { c * cols + cols ≤ length m.old }
     ensures { Did (place_pivot cols p c m.old) 1 m.new result }
 {
     if p == c {
@@ -65,7 +63,9 @@ fn place_pivot(m: &mut [u16], cols: usize, p: usize, c: usize) -> usize
 
 // Scales row c so that its pivot is 1, unless it is. The row is zero before column c, so the work begins there.
 fn scale_pivot(m: &mut [u16], cols: usize, c: usize) -> usize
-    requires { (c * cols + cols ≤ length m.old) × (c < cols) × Lead cols c m.old }
+    requires fits { c * cols + cols ≤ length m.old }
+    requires column { c < cols }
+    requires lead { Lead cols c m.old }
     ensures did { Did (scale_pivot ten cols c m.old) 1 m.new result }
     ensures lead { Lead cols c m.new }
 {
@@ -79,7 +79,7 @@ fn scale_pivot(m: &mut [u16], cols: usize, c: usize) -> usize
 
 // Where a run to the end of row c begins: at column c, or up to 7 columns before it, so that 8 divides its length.
 fn run_start(cols: usize, c: usize) -> usize
-    requires { c < cols }
+    requires column { c < cols }
     ensures { result ≤ c }
 {
     let back = (8 - (cols - c) % 8) % 8;
@@ -91,7 +91,12 @@ fn run_start(cols: usize, c: usize) -> usize
 
 // Clears column c of row i, unless the entry is 0. Row c is zero before column c, so the work may begin at any column b up to c.
 fn clear_row(m: &mut [u16], cols: usize, c: usize, b: usize, i: usize) -> usize
-    requires { (i * cols + cols ≤ length m.old) × (c * cols + cols ≤ length m.old) × (c < cols) × (b ≤ c) × (i ≡ c → ⊥) × Lead cols c m.old }
+    requires i_fits { i * cols + cols ≤ length m.old }
+    requires c_fits { c * cols + cols ≤ length m.old }
+    requires column { c < cols }
+    requires begins { b ≤ c }
+    requires other { i ≢ c }
+    requires lead { Lead cols c m.old }
     ensures { Did (clear_row ten cols c i m.old) 1 m.new result }
 {
     let x = at(m, cols, i, c);
@@ -104,23 +109,30 @@ fn clear_row(m: &mut [u16], cols: usize, c: usize, b: usize, i: usize) -> usize
 
 // Clears column c of the rows from `from` up to `to`, of which c is none, after `ops` row operations. Answers how many there are then.
 fn clear_rows(m: &mut [u16], cols: usize, c: usize, from: usize, to: usize, ops: usize) -> usize
-    requires { (to * cols ≤ length m.old) × (c * cols + cols ≤ length m.old) × (c < cols) × (from ≤ to) × (ops ≤ from) × Spared c from to × Lead cols c m.old }
+    requires fits { to * cols ≤ length m.old }
+    requires c_fits { c * cols + cols ≤ length m.old }
+    requires column { c < cols }
+    requires order { from ≤ to }
+    requires few { ops ≤ from }
+    requires spared { Spared c from to }
+    requires lead { Lead cols c m.old }
     ensures { Cleared ten cols c from to m.old ops m.new result }
 {
     let b = run_start(cols, c);
-    let mut k = ops;
-    let mut i = from;
-    while i < to {
-        k += clear_row(m, cols, c, b, i);
-        i += 1;
+    let mut count = ops;
+    for i in from..to {
+        count += clear_row(m, cols, c, b, i);
     }
-    k
+    count
 }
 
 // Clears column c of every row but c. The rows before it and those after it have loops of their own: in one loop over all rows the
 // compiler would find row c, which is read, among those that are written, and would use no vectors.
 fn clear_column(m: &mut [u16], rows: usize, cols: usize, c: usize) -> usize
-    requires { (rows * cols ≤ length m.old) × (c < rows) × (c < cols) × Lead cols c m.old }
+    requires fits { rows * cols ≤ length m.old }
+    requires row { c < rows }
+    requires column { c < cols }
+    requires lead { Lead cols c m.old }
     ensures { Did (clear_column ten rows cols c m.old) rows m.new result }
 {
     let ops = clear_rows(m, cols, c, 0, c, 0);
@@ -129,7 +141,12 @@ fn clear_column(m: &mut [u16], rows: usize, cols: usize, c: usize) -> usize
 
 // Column c, whose first usable row is p.
 fn reduce_column(m: &mut [u16], rows: usize, cols: usize, c: usize, p: usize) -> usize
-    requires { (Reduced ten rows cols c m.old) × (c ≤ p) × (p < rows) × (c < rows) × (c < cols) × (rows < 65536) }
+    requires reduced { Reduced ten rows cols c m.old }
+    requires from { c ≤ p }
+    requires usable { p < rows }
+    requires row { c < rows }
+    requires column { c < cols }
+    requires small { rows < 65536 }
     ensures { Did (reduce_column ten rows cols c p m.old) (rows + 2) m.new result }
 {
     let a = place_pivot(m, cols, p, c);
@@ -147,19 +164,18 @@ pub struct Outcome {
 
 // Eliminates `limit` columns, or those before the first without a usable row.
 pub fn eliminate(m: &mut [u16], rows: usize, cols: usize, limit: usize) -> Outcome
-    requires { (Matrix ten rows cols m.old) × (limit ≤ rows) × (limit ≤ cols) × (rows < 65536) }
+    requires matrix { Matrix ten rows cols m.old }
+    requires in_rows { limit ≤ rows }
+    requires in_cols { limit ≤ cols }
+    requires small { rows < 65536 }
     ensures { Ended (eliminated ten rows cols limit m.old) limit m.new result.cols result.ops }
 {
     let mut ops = 0;
-    let mut c = 0;
-    while c < limit {
-        let p = find_pivot(m, rows, cols, c);
-        if p == rows {
+    for c in 0..limit {
+        let Some(p) = find_pivot(m, rows, cols, c) else {
             return Outcome { cols: c, ops };
-        }
-        let did = reduce_column(m, rows, cols, c, p);
-        c += 1;
-        ops += did;
+        };
+        ops += reduce_column(m, rows, cols, c, p);
     }
-    Outcome { cols: c, ops }
+    Outcome { cols: limit, ops }
 }

@@ -8,8 +8,8 @@ use Rattle.gf.specs.Ten.{ten}
 use Rattle.gf.proofs.Ten.{ten-field}
 use Rattle.bits.specs.Bits.{elements, tail_zero}
 use Rattle.code.specs.Decoding.{Near}
-use Rattle.code.specs.declared.Decoded.{Decoded}
-use Rattle.code.specs.declared.Decoded.TheVariants.{Word, None}
+use Rattle.std.specs.Prelude.{Result, Ok, Err}
+use Rattle.code.specs.declared.Undecodable.{Undecodable}
 use Rattle.code.proofs.Distance.{near-once}
 use Rattle.sets.specs.declared.Set.{Set}
 use Rattle.scheme.specs.Keys.{Private, WellFormed, read}
@@ -37,19 +37,17 @@ pub working-after : (s : Set) (key l l' : List ℕ) (u : ℕ) → Working s key 
 working-after s key l l' u Q e = working-same s key l l' u Q (same-less (decoding_at s) (vector_at s) l l' (omega arith) e)
 
 -- an enum that a test told apart
-word-not-none : (r : Decoded) → r ≡ Word → r ≡ None → ⊥
-word-not-none r a b = let z : ◌≡◌ {A = ℕ} 0 1 = cc in omega arith
 
 right-not-wrong : (r : Unpadded) → r ≡ Right → r ≡ Wrong → ⊥
 right-not-wrong r a b = let z : ◌≡◌ {A = ℕ} 0 1 = cc in omega arith
 
-near-told : (s : Set) (y : List ℕ) (r : Decoded) (l : List ℕ) → NearIn s y r l → r ≡ Word → Near ten s.n s.t y (code_in s l)
-near-told s y Word l N e = N
-near-told s y None l N e = absurd (word-not-none None e refl)
+near-told : (s : Set) (y : List ℕ) (r : Result Unit Undecodable) (l : List ℕ) → NearIn s y r l → r ≡ Ok tt → Near ten s.n s.t y (code_in s l)
+near-told s y (Ok x) l N e = N
+near-told s y (Err x) l N e = absurd (let z : ◌≡◌ {A = ℕ} 0 1 = cc in omega arith)
 
-none_told : (s : Set) (y : List ℕ) (r : Decoded) (l : List ℕ) → NearIn s y r l → r ≡ None → (c : List ℕ) → Near ten s.n s.t y c → ⊥
-none_told s y None l N e = N
-none_told s y Word l N e = absurd (word-not-none Word refl e)
+none_told : (s : Set) (y : List ℕ) (r : Result Unit Undecodable) (l : List ℕ) → NearIn s y r l → (r ≡ Ok tt → ⊥) → (c : List ℕ) → Near ten s.n s.t y c → ⊥
+none_told s y (Err x) l N e = N
+none_told s y (Ok x) l N e = absurd (e refl)
 
 accepted-told : (s : Set) (κ : Private) (x y : List ℕ) (r : Unpadded) (msg : List ℕ) → Finishes s κ x y r msg → r ≡ Right → Finishes s κ x y Right msg
 accepted-told s κ x y Right msg F e = F
@@ -77,15 +75,15 @@ module _ (s : Set) (key cipher msg l : List ℕ) (u : ℕ) (Q : Working s key l 
   opened-near : (m : List ℕ) (O : Opens s key cipher m) → Near ten s.n s.t (undone_of s key cipher) O.code
   opened-near m O = near s key Q.given Q.formed (regular s key l u Q) cipher O.code O.word O.near
 
-  module _ (l₁ : List ℕ) (r : Decoded) (D : Decodes s (undone_of s key cipher) l r l₁) where
+  module _ (l₁ : List ℕ) (r : Result Unit Undecodable) (D : Decodes s (undone_of s key cipher) l r l₁) where
     pub decoded-working : Working s key l₁ u
     decoded-working = working-same s key l l₁ u Q D.same
 
     -- no code word is near
-    pub none-not : r ≡ None → OpensAs s key cipher Not msg
+    pub none-not : (r ≡ Ok tt → ⊥) → OpensAs s key cipher Not msg
     none-not e = answer-not (λ m O. none_told s (undone_of s key cipher) r l₁ D.near e O.code (opened-near m O))
 
-    module _ (e : r ≡ Word) (l₂ : List ℕ) (F : Found s key (code_in s l₁) l₂) (f : Unpadded) (E : Finishes s κ (vector_in s l₂) y f msg) where
+    module _ (e : r ≡ Ok tt) (l₂ : List ℕ) (F : Found s key (code_in s l₁) l₂) (f : Unpadded) (E : Finishes s κ (vector_in s l₂) y f msg) where
       found : Near ten s.n s.t (undone_of s key cipher) (code_in s l₁)
       found = near-told s (undone_of s key cipher) r l₁ D.near e
 

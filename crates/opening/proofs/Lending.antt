@@ -15,7 +15,8 @@ use Rattle.gf.specs.Ten.{ten}
 use Rattle.bits.specs.Bits.{elements_at}
 use Rattle.bits.proofs.Packing.{length-elements_at}
 use Rattle.perm.specs.Perm.{Inverts}
-use Rattle.linear.specs.declared.inverse.Inverse.{Inverse}
+use Rattle.std.specs.Prelude.{Result}
+use Rattle.linear.specs.declared.inverse.Singular.{Singular}
 use Rattle.linear.specs.Inverse as half
 use Rattle.linear.specs.Inverse.{LeftHalf, inverted}
 use Rattle.opening.specs.Reading.{list_from}
@@ -47,7 +48,7 @@ unpack-lent m place at n key p l e fits =
     let q : p ≡ elements_at n m key place = rw (part-long at n l fits) at e in
     rw (k, q) (wrote-lent at n (elements_at n m key place) l _ refl (length-elements_at n m key place) fits)
 
-pub matrix-lent : (at u : ℕ) (p l : List ℕ) (r : Inverse) → half.Inverts u (inverted ten u (take (at + u * (u + u) - at) (drop at l))) p r → length p ≡ at + u * (u + u) - at → at + u * (u + u) ≤ length l
+pub matrix-lent : (at u : ℕ) (p l : List ℕ) (r : Result Unit Singular) → half.Inverts u (inverted ten u (take (at + u * (u + u) - at) (drop at l))) p r → length p ≡ at + u * (u + u) - at → at + u * (u + u) ≤ length l
     → Put at (u * (u + u)) (λ (q : List ℕ). half.Inverts u (inverted ten u (part at (u * (u + u)) l)) q r) l (put at (at + u * (u + u) - at) p l)
 matrix-lent at u p l r h e fits =
     let k : at + u * (u + u) - at ≡ u * (u + u) = omega arith in

@@ -1,5 +1,5 @@
 -- W is singular just where its elimination stops; else its inverse stands beside it.
-use mathlib.Core.Path.{◌≡◌, sym, ap, ap₂, subst, ◌∙◌}
+use mathlib.Core.Path.{◌≡◌, refl, sym, ap, ap₂, subst, ◌∙◌}
 use mathlib.Core.Bool.{Bool, true, false, not}
 use mathlib.Core.List.{List}
 use Prim.Native.Nat.{ℕ, ◌+◌, ◌-◌, ◌*◌, ◌^◌, ◌≤◌, ◌<◌}
@@ -21,8 +21,8 @@ use Rattle.gf.proofs.Ten.{ten-field}
 use Rattle.gf.proofs.Elements.{num-el, times, el-injective}
 use Rattle.linear.specs.Matrix.{entry}
 use Rattle.linear.specs.Inverse.{LeftHalf, identity, inverted, Inverts}
-use Rattle.linear.specs.declared.inverse.Inverse.{Inverse}
-use Rattle.linear.specs.declared.inverse.Inverse.TheVariants.{Found, Singular}
+use Rattle.std.specs.Prelude.{Result, Ok, Err}
+use Rattle.linear.specs.declared.inverse.Singular.{Singular}
 use Rattle.linear.proofs.Inverted.{found_left, singular-left}
 use Rattle.bits.specs.Bits.{elements_at}
 use Rattle.bits.proofs.Packing.{elements_at-small}
@@ -100,7 +100,7 @@ module _ (s : Set) (key : List ℕ) (G : KeyGiven s key) (wf : WellFormed s key)
     left = record { fits = omega (arith, part_length (matrix_at s) (u * (u + u)) l₁ fits); small = λ a b ha hb. rw (half_at a b ha hb) (W-small a b) }
 
     -- found: the inverse stands beside W
-    module _ (l₂ : List ℕ) (P : Put (matrix_at s) (u * (u + u)) (λ (p : List ℕ). Inverts u (inverted ten u half) p Found) l₁ l₂) where
+    module _ (l₂ : List ℕ) (P : Put (matrix_at s) (u * (u + u)) (λ (p : List ℕ). Inverts u (inverted ten u half) p (Ok tt)) l₁ l₂) where
       kept : (i : ℕ) → i < matrix_at s → get_or l₂ i 0 ≡ get_or l i 0
       kept i h = P.wrote.elsewhere i (λ a b. omega arith) ∙ C.before i h
 
@@ -142,7 +142,7 @@ module _ (s : Set) (key : List ℕ) (G : KeyGiven s key) (wf : WellFormed s key)
           }
 
     -- not found: a row that W takes to zero
-    module _ (l₂ : List ℕ) (P : Put (matrix_at s) (u * (u + u)) (λ (p : List ℕ). Inverts u (inverted ten u half) p Singular) l₁ l₂) where
+    module _ (l₂ : List ℕ) (e : Singular) (P : Put (matrix_at s) (u * (u + u)) (λ (p : List ℕ). Inverts u (inverted ten u half) p (Err e)) l₁ l₂) where
       pub singular : Opening.Singular s κ
       unfolding comb
       singular = go (singular-left ten ten-field u half left P.holds.answer)
@@ -184,14 +184,14 @@ module _ (s : Set) (a : Area) (A : Laid s a) (key : List ℕ) (G : KeyGiven s ke
         rw (runs A).matrix
         (fits s key G wf l room u R l₁ there, omega (arith, G.valid.places, G.valid.room, G.valid.some_w), filled-small s key G wf l room u R l₁ there)
 
-    pub inverted-end : (l₂ : List ℕ) (r : Inverse) → Put a.matrix (u * (u + u)) (λ (p : List ℕ). Inverts u (inverted ten u (part a.matrix (u * (u + u)) l₁)) p r) l₁ l₂ → Solvable s key u l₂ r
-    inverted-end l₂ Found P = solvable s key G wf l room u R l₁ there l₂ (rw (runs A).matrix at P)
-    inverted-end l₂ Singular P = singular s key G wf l room u R l₁ there l₂ (rw (runs A).matrix at P)
+    pub inverted-end : (l₂ : List ℕ) (r : Result Unit Singular) → Put a.matrix (u * (u + u)) (λ (p : List ℕ). Inverts u (inverted ten u (part a.matrix (u * (u + u)) l₁)) p r) l₁ l₂ → Solvable s key u l₂ r
+    inverted-end l₂ (Ok tt) P = solvable s key G wf l room u R l₁ there l₂ (rw (runs A).matrix at P)
+    inverted-end l₂ (Err e) P = singular s key G wf l room u R l₁ there l₂ e (rw (runs A).matrix at P)
 
-pub solvable-yes : (s : Set) (key : List ℕ) (u : ℕ) (l : List ℕ) (r : Inverse) → Solvable s key u l r → r ≡ Found → Working s key l u
-solvable-yes s key u l Found w e = w
-solvable-yes s key u l Singular w e = absurd (let z : ◌≡◌ {A = ℕ} 0 1 = cc in omega arith)
+pub solvable-yes : (s : Set) (key : List ℕ) (u : ℕ) (l : List ℕ) (r : Result Unit Singular) → Solvable s key u l r → r ≡ Ok tt → Working s key l u
+solvable-yes s key u l (Ok x) w e = w
+solvable-yes s key u l (Err x) w e = absurd (let z : ◌≡◌ {A = ℕ} 0 1 = cc in omega arith)
 
-pub solvable-no : (s : Set) (key : List ℕ) (u : ℕ) (l : List ℕ) (r : Inverse) → Solvable s key u l r → r ≡ Singular → Opening.Singular s (read s key)
-solvable-no s key u l Singular w e = w
-solvable-no s key u l Found w e = absurd (let z : ◌≡◌ {A = ℕ} 0 1 = cc in omega arith)
+pub solvable-no : (s : Set) (key : List ℕ) (u : ℕ) (l : List ℕ) (r : Result Unit Singular) → Solvable s key u l r → (r ≡ Ok tt → ⊥) → Opening.Singular s (read s key)
+solvable-no s key u l (Err x) w e = w
+solvable-no s key u l (Ok x) w e = absurd (e refl)

@@ -16,8 +16,8 @@ use Rattle.bits.specs.Bits.{elements}
 use Rattle.perm.proofs.Permutations.{entries-low}
 use Rattle.code.specs.Area.{word_at, decode_room}
 use Rattle.code.specs.Stages.{Held, DecodesIn}
-use Rattle.code.specs.declared.Decoded.{Decoded}
-use Rattle.code.specs.declared.Decoded.TheVariants.{Word, None}
+use Rattle.std.specs.Prelude.{Result, Ok, Err}
+use Rattle.code.specs.declared.Undecodable.{Undecodable}
 use Rattle.sets.specs.declared.Set.{Set}
 use Rattle.scheme.specs.Keys.{Private, WellFormed, read}
 use Rattle.scheme.specs.Opening.{undone}
@@ -80,7 +80,7 @@ module _ (s : Set) (key cipher : List ℕ) (G : Given s key cipher) (l l' : List
       rw (get_or-take s.n (drop (code_at s) l') i 0 h, get_or-drop (code_at s) l' i 0) (w.there i h))
 
   -- placed, then decoded
-  pub received : (r : Decoded) (l'' : List ℕ) → Decodes s (code_in s l') l' r l'' → Decodes s (undone_of s key cipher) l r l''
+  pub received : (r : Result Unit Undecodable) (l'' : List ℕ) → Decodes s (code_in s l') l' r l'' → Decodes s (undone_of s key cipher) l r l''
   received r l'' D =
       record {
         same = same-both (decoding_at s) l l' l'' (same-wrote (decoding_at s) (code_at s) _ _ l l' (omega arith) w) D.same;
@@ -138,14 +138,14 @@ module _ (s : Set) (a : Area) (A : Laid s a) (l : List ℕ) (P : Placed s l) whe
     code-back =
         ap (part (word_at s.t) s.n) (sym (put_same (decoding_at s) room p l P.room same)) ∙ code-in back (omega (arith, wrote.long, P.room))
 
-    near-back : (r : Decoded) → DecodesIn ten s.n s.t (part (decoding_at s) room l) r p → NearIn s (code_in s l) r back
-    near-back Word D = rw (code-in l P.room, code-back) at D
-    near-back None D = λ c N. D c (rw (code-in l P.room) N)
+    near-back : (r : Result Unit Undecodable) → DecodesIn ten s.n s.t (part (decoding_at s) room l) r p → NearIn s (code_in s l) r back
+    near-back (Ok x) D = rw (code-in l P.room, code-back) at D
+    near-back (Err x) D = λ c N. D c (rw (code-in l P.room) N)
 
-    decoded-back : (r : Decoded) → DecodesIn ten s.n s.t (part (decoding_at s) room l) r p → Decodes s (code_in s l) l r back
+    decoded-back : (r : Result Unit Undecodable) → DecodesIn ten s.n s.t (part (decoding_at s) room l) r p → Decodes s (code_in s l) l r back
     decoded-back r D = record { same = same-wrote (decoding_at s) (decoding_at s) room _ l back (omega arith) wrote; near = near-back r D }
 
-  pub decoded-lent : (r : Decoded) (p : List ℕ) → DecodesIn ten s.n s.t (take (a.vector - a.decoding) (drop a.decoding l)) r p
+  pub decoded-lent : (r : Result Unit Undecodable) (p : List ℕ) → DecodesIn ten s.n s.t (take (a.vector - a.decoding) (drop a.decoding l)) r p
       → length p ≡ a.vector - a.decoding → Decodes s (code_in s l) l r (put a.decoding (a.vector - a.decoding) p l)
   decoded-lent r p D e =
       let k : a.vector - a.decoding ≡ room = rw ((runs A).vector, (runs A).decoding) wide in

@@ -4,8 +4,8 @@ use Rattle.gf.specs.Field.{size, order}
 use Rattle.gf.specs.Ten.{ten}
 use Rattle.bits.specs.Bits.{elements}
 use Rattle.code.specs.Decoding.{Near}
-use Rattle.code.specs.declared.Decoded.{Decoded}
-use Rattle.code.specs.declared.Decoded.TheVariants.{Word, None}
+use Rattle.std.specs.Prelude.{Result, Ok, Err}
+use Rattle.code.specs.declared.Undecodable.{Undecodable}
 use Rattle.sets.specs.declared.Set.{Set}
 use Rattle.scheme.specs.Keys.{read}
 use Rattle.scheme.specs.Opening.{undone}
@@ -24,11 +24,11 @@ pub record Placed (s : Set) (l : List ℕ) : Type 0 where
   pub small : (i : ℕ) → i < s.n → get_or l (code_at s + i) 0 < size ten
 
 -- the code word near y stands in the area; or there is none
-abbrev pub NearIn : Set → List ℕ → Decoded → List ℕ → Type 0
-NearIn s y Word l' = Near ten s.n s.t y (code_in s l')
-NearIn s y None l' = (c : List ℕ) → Near ten s.n s.t y c → ⊥
+abbrev pub NearIn : Set → List ℕ → Result Unit Undecodable → List ℕ → Type 0
+NearIn s y (Ok x) l' = Near ten s.n s.t y (code_in s l')
+NearIn s y (Err x) l' = (c : List ℕ) → Near ten s.n s.t y c → ⊥
 
 -- the word y was decoded, and what is computed from the key is as it was
-pub record Decodes (s : Set) (y l : List ℕ) (r : Decoded) (l' : List ℕ) : Type 0 where
+pub record Decodes (s : Set) (y l : List ℕ) (r : Result Unit Undecodable) (l' : List ℕ) : Type 0 where
   pub same : Same (decoding_at s) l l'
   pub near : NearIn s y r l'

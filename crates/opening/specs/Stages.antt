@@ -12,8 +12,8 @@ use Rattle.scheme.specs.Sealing.{encoded}
 use Rattle.scheme.specs.Opening.{places_i, places_t, W, placed, unmixed, redone, Vector}
 use Rattle.scheme.specs.Opening as Opening
 use Rattle.linear.specs.Inverse.{identity}
-use Rattle.linear.specs.declared.inverse.Inverse.{Inverse}
-use Rattle.linear.specs.declared.inverse.Inverse.TheVariants.{Found as FoundW, Singular as SingularI}
+use Rattle.std.specs.Prelude.{Result, Ok, Err}
+use Rattle.linear.specs.declared.inverse.Singular as linear
 use Rattle.opening.specs.declared.prepare.Prepared.{Prepared}
 use Rattle.opening.specs.declared.prepare.Prepared.TheVariants.{Malformed, Singular as SingularW, Ready}
 use Rattle.gf.specs.Ten.{ten}
@@ -156,9 +156,9 @@ pub record Found (s : Set) (key c l : List ℕ) : Type 0 where
   pub tail : (j : ℕ) → j < s.n + s.w - s.k → get_or l (tail_at s + j) 0 ≡ encoded s (read s key).ge (vector_in s l) (s.k + j)
 
 -- W is regular, and all is ready for a ciphertext; or it is singular
-abbrev pub Solvable : Set → List ℕ → ℕ → List ℕ → Inverse → Type 0
-Solvable s key u l FoundW = Working s key l u
-Solvable s key u l SingularI = Opening.Singular s (read s key)
+abbrev pub Solvable : Set → List ℕ → ℕ → List ℕ → Result Unit linear.Singular → Type 0
+Solvable s key u l (Ok x) = Working s key l u
+Solvable s key u l (Err x) = Opening.Singular s (read s key)
 
 -- what preparing the key answers, and leaves in the area
 abbrev pub Prepares : Set → List ℕ → Prepared → List ℕ → Type 0

@@ -8,7 +8,7 @@ ghost use Rattle.opening.specs.Receiving.{undone_of, Placed, Decodes};
 
 use crate::area::Area;
 use crate::undo::undo;
-use code::Decoded;
+use code::Undecodable;
 use sets::Set;
 
 // The word that is decoded comes to its place in the work area.
@@ -22,7 +22,7 @@ fn place_word(s: Set, a: Area, key: &[u8], cipher: &[u8], work: &mut [u16])
 }
 
 // Decodes the word in the work area.
-fn decode_word(s: Set, a: Area, work: &mut [u16]) -> Decoded
+fn decode_word(s: Set, a: Area, work: &mut [u16]) -> Result<(), Undecodable>
     requires { Laid s a × Placed s work.old }
     ensures { Decodes s (code_in s work.old) work.old result work.new }
 {
@@ -34,7 +34,13 @@ fn decode_word(s: Set, a: Area, work: &mut [u16]) -> Decoded
 }
 
 // Finds the code word within t places of the ciphertext, from which what the key does is undone.
-pub fn receive(s: Set, a: Area, key: &[u8], cipher: &[u8], work: &mut [u16]) -> Decoded
+pub fn receive(
+    s: Set,
+    a: Area,
+    key: &[u8],
+    cipher: &[u8],
+    work: &mut [u16],
+) -> Result<(), Undecodable>
     requires { Laid s a × Given s key.now cipher.now × (vector_at s ≤ length work.old) }
     ensures { Decodes s (undone_of s key.now cipher.now) work.old result work.new }
 {

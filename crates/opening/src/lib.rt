@@ -10,7 +10,6 @@ ghost use Rattle.opening.specs.Stages.{Working};
 ghost use Rattle.opening.specs.Ending.{OpenGiven, OpensAs};
 
 use area::{Area, lay};
-use code::Decoded;
 use decoding::receive;
 use finish::finish;
 use padding::Unpadded;
@@ -58,7 +57,7 @@ fn open_prepared(
         return Opened::Not;
     }
     let decoded = receive(s, a, key, cipher, work);
-    let Decoded::Word = decoded else {
+    let Ok(()) = decoded else {
         return Opened::Not;
     };
     find_vector(s, a, key, work, u);

@@ -6,7 +6,7 @@ ghost use Rattle.gf.specs.Ten.{ten};
 ghost use Rattle.linear.specs.Inverse.{inverted, Inverts};
 ghost use Rattle.opening.specs.Stages.{Put, Filled};
 
-use linear::inverse::Inverse;
+use linear::inverse::Singular;
 
 fn wide(work: &[u16], at: usize) -> usize
     requires { at < length work.now }
@@ -50,7 +50,7 @@ pub fn fill_rows(work: &mut [u16], at: usize, u: usize, i: usize, cols: usize, t
 }
 
 // Inverts the matrix of u rows that stands in the work area from `at` on.
-pub fn invert_at(work: &mut [u16], at: usize, u: usize) -> Inverse
+pub fn invert_at(work: &mut [u16], at: usize, u: usize) -> Result<(), Singular>
     requires { (at + u * (u + u) ≤ length work.old) × (u < 65536) × ((a b : ℕ) → a < u → b < u → get_or work.old (at + (a * (u + u) + b)) 0 < size ten) }
     ensures { Put at (u * (u + u)) (λ (p : List ℕ). Inverts u (inverted ten u (part at (u * (u + u)) work.old)) p result) work.old work.new }
 {

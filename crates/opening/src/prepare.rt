@@ -9,7 +9,7 @@ use crate::area::Area;
 use crate::key::read_key;
 use crate::matrix::{fill_rows, invert_at};
 use crate::places::part_places;
-use linear::inverse::Inverse;
+use linear::inverse;
 use sets::Set;
 
 // What preparing a key answers: it is malformed, W is singular, or all is ready, with u places to solve for.
@@ -21,7 +21,13 @@ pub enum Prepared {
 }
 
 // W and beside it its inverse.
-fn invert_w(s: Set, a: Area, key: &[u8], work: &mut [u16], u: usize) -> Inverse
+fn invert_w(
+    s: Set,
+    a: Area,
+    key: &[u8],
+    work: &mut [u16],
+    u: usize,
+) -> Result<(), inverse::Singular>
     requires { Laid s a × KeyGiven s key.now × WellFormed s key.now × (open_room s ≤ length work.old) × Parted s (read s key.now) work.old u }
     ensures { Solvable s key.now u work.new result }
 {
@@ -44,7 +50,7 @@ pub fn prepare(s: Set, a: Area, key: &[u8], work: &mut [u16]) -> Prepared
     }
     let u = part_places(s, key, work);
     let found = invert_w(s, a, key, work, u);
-    let Inverse::Found = found else {
+    let Ok(()) = found else {
         return Prepared::Singular;
     };
     Prepared::Ready(u)

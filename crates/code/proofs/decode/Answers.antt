@@ -5,4 +5,4 @@ use Rattle.gf.specs.Ten.{ten}
 use Rattle.code.proofs.decode.Goals as goal
 
 pub returns : goal.returns
-returns c = decodes-word ten _ _ _ _ _ c.requires c.copy_in.ensures c.decode_in-found.new.s _ c.decode_in-found.result (search rules) c.decode_in-found.ensures (search rules) c.copy_out.ensures
+returns c = decodes-word ten _ _ _ _ _ c.requires c.copy_in.ensures c.decode_in.new.s _ (search rules) c.in_ok-decode_in.ensures c.copy_out.ensures

@@ -6,7 +6,7 @@ pub loop-i-init : goal.loop-i-init
 loop-i-init c = (search rules, search rules, simp length-set (search rules), holds-one _ _ _ _ c.clear.ensures refl (search rules))
 
 pub loop-i-preserved : goal.loop-i-preserved
-loop-i-preserved c = (search rules, search rules, search rules, holds_more _ _ _ _ _ c.loop-i.invariant.3 (search rules) c.power.ensures.0 c.times_root.ensures)
+loop-i-preserved c = (search rules, search rules, search rules, holds_more _ _ _ _ _ c.loop-i.invariant.3 (search rules) c.power.ensures.value c.times_root.ensures)
 
 pub returns : goal.returns
 returns c = holds-end _ _ _ _ c.loop-i.invariant.3 (search rules) (search rules) (search rules) (search rules)

@@ -1,9 +1,8 @@
-use Rattle.std.proofs.Common.{rules}
 use Rattle.gf.proofs.Turns.{mul-none, mul-more}
 use Rattle.gf.proofs.mul_run.Goals as goal
 
 pub loop-i-init : goal.loop-i-init
-loop-i-init c = search (rules, mul-none)
+loop-i-init c = search mul-none
 
 pub loop-i-preserved : goal.loop-i-preserved
-loop-i-preserved c = (search rules, search rules, search (mul-more, c.combine.ensures))
+loop-i-preserved c = search (mul-more, c.combine.ensures)

@@ -1,11 +1,8 @@
 -- The first i elements are done, and the rest is as it was.
-use Rattle.std.proofs.Common.{◌≡◌, ◌-◌, ◌≤◌, length}
+use Rattle.std.proofs.Common.{◌≡◌}
 use Rattle.gf.specs.Runs.{mul_run}
 use Rattle.gf.specs.Ten.{ten}
 use Rattle.gf.proofs.mul_run.Given as goal
 
 abbrev pub invariant-loop-i : goal.invariant-loop-i
-invariant-loop-i l = (l.i ≤ l.n) × (length l.s ≡ length l.initial.s) × (l.s ≡ mul_run ten l.dst l.src l.i l.initial.s)
-
-abbrev pub decreases-loop-i : goal.decreases-loop-i
-decreases-loop-i l = l.n - l.i
+invariant-loop-i l = l.s ≡ mul_run ten l.dst l.src l.i l.fn.s

@@ -10,4 +10,4 @@ pub returns : goal.returns
 returns c =
     let i = c.args.i in
     let e = c.pow_at.ensures ∙ alpha-mod ten-field i in
-    (e, rw e (alpha-lt ten i))
+    record { value = e; small = rw e (alpha-lt ten i) }

@@ -8,4 +8,4 @@ pub returns : goal.returns
 returns c =
     let a = c.args in
     let e = c.combine.ensures a.b c.multiples.ensures ∙ mul_comm ten a.b a.a in
-    (e, rw e (mul-lt ten a.a a.b))
+    record { value = e; small = rw e (mul-lt ten a.a a.b) }

@@ -3,11 +3,11 @@ use Rattle.gf.proofs.Powers.{squares-all, squares-more, squares-end}
 use Rattle.gf.specs.Ten.{ten}
 use Rattle.gf.proofs.reciprocal.Goals as goal
 
-pub loop-n-init : goal.loop-n-init
-loop-n-init c = (omega arith, squares-all ten c.args.a)
+pub loop-init : goal.loop-init
+loop-init c = record { small = omega arith; left = squares-all ten c.args.a }
 
-pub loop-n-preserved : goal.loop-n-preserved
-loop-n-preserved c = (search rules, search squares-more)
+pub loop-preserved : goal.loop-preserved
+loop-preserved c = record { small = search rules; left = search squares-more }
 
 pub returns : goal.returns
-returns c = (search squares-end, search rules)
+returns c = record { value = search squares-end; small = search rules }

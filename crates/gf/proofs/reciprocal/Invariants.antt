@@ -1,12 +1,12 @@
 -- r times the squares that are left is the inverse.
-use Rattle.std.proofs.Common.{◌≡◌, ◌<◌}
+use Rattle.std.proofs.Common.{◌≡◌, ◌-◌, ◌<◌}
 use Rattle.gf.proofs.Powers.{squares}
 use Rattle.gf.specs.Field.{size, mul, inverse}
 use Rattle.gf.specs.Ten.{ten}
 use Rattle.gf.proofs.reciprocal.Given as goal
 
-abbrev pub invariant-loop-n : goal.invariant-loop-n
-invariant-loop-n l = (l.r < size ten) × (mul ten l.r (squares ten l.n l.s) ≡ inverse ten l.a)
-
-abbrev pub decreases-loop-n : goal.decreases-loop-n
-decreases-loop-n l = l.n
+abbrev pub invariant-loop : goal.invariant-loop
+invariant-loop l = record {
+  small : l.r < size ten;
+  left : mul ten l.r (squares ten (9 - l.counter) l.s) ≡ inverse ten l.a;
+}

@@ -1,9 +1,8 @@
-use Rattle.std.proofs.Common.{rules}
 use Rattle.gf.proofs.Turns.{scale-none, scale-more}
 use Rattle.gf.proofs.scale_run.Goals as goal
 
 pub loop-i-init : goal.loop-i-init
-loop-i-init c = search (rules, scale-none)
+loop-i-init c = search scale-none
 
 pub loop-i-preserved : goal.loop-i-preserved
-loop-i-preserved c = (search rules, search rules, search (scale-more, c.combine.ensures))
+loop-i-preserved c = search (scale-more, c.combine.ensures)

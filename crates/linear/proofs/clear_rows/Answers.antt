@@ -1,6 +1,5 @@
-use Rattle.std.proofs.Common.{rules}
 use Rattle.linear.proofs.Clearing.{rows_more}
 use Rattle.linear.proofs.clear_rows.Goals as goal
 
 pub loop-i-preserved : goal.loop-i-preserved
-loop-i-preserved c = (search rules, search rules, search rules, search rules, search rows_more)
+loop-i-preserved c = search rows_more

@@ -1,13 +1,12 @@
 -- All n columns done, or fewer.
-use Rattle.std.proofs.Common.{rules}
 use Rattle.linear.proofs.Reading.{invert-ready, invert-found, invert-singular}
 use Rattle.linear.proofs.inverse.invert.Goals as goal
 
-pub eliminate-e-requires : goal.eliminate-e-requires
-eliminate-e-requires c = (search invert-ready, search rules, search rules, search rules)
+pub eliminate-outcome-requires-clause-matrix : goal.eliminate-outcome-requires-clause-matrix
+eliminate-outcome-requires-clause-matrix c = search invert-ready
 
-pub returns-then-done-n : goal.returns-then-done-n
-returns-then-done-n c = search invert-singular
+pub returns-then-outcome-n : goal.returns-then-outcome-n
+returns-then-outcome-n c = search invert-singular
 
 pub returns : goal.returns
 returns c = search invert-found

@@ -4,7 +4,7 @@ use Rattle.making.proofs.Entries.{reduce-ready, reduces}
 use Rattle.making.proofs.filling.reduce.Goals as goal
 
 pub eliminate-done-requires : goal.eliminate-done-requires
-eliminate-done-requires c = let a = c.args in (reduce-ready a.s a.random.now a.work.now _ c.requires.0 c.requires.1 c.fill.ensures _ c.matrix_size-end.ensures, omega arith, omega (arith, c.requires.0.code), omega (arith, c.requires.0.unmixed, c.requires.0.places))
+eliminate-done-requires c = let a = c.args in record { matrix = reduce-ready a.s a.random.now a.work.now _ c.requires.0 c.requires.1 c.fill.ensures _ c.matrix_size-end.ensures; in_rows = omega arith; in_cols = omega (arith, c.requires.0.code); small = omega (arith, c.requires.0.unmixed, c.requires.0.places) }
 
 pub returns : goal.returns
 returns c = let a = c.args in reduces a.s a.random.now a.work.now _ c.requires.0 c.requires.1 c.fill.ensures _ c.matrix_size-end.ensures _ _ _ _ c.eliminate-done.ensures c.eliminate-done.auto.m refl

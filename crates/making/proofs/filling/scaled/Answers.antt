@@ -10,4 +10,4 @@ pub returns-then-s-e : goal.returns-then-s-e
 returns-then-s-e c = search scaled-past
 
 pub returns : goal.returns
-returns c = scaled-there _ _ _ _ c.requires.1 (omega arith) (omega arith) _ _ _ c.generator_at.ensures c.matrix_size.ensures c.product.ensures.0
+returns c = scaled-there _ _ _ _ c.requires.1 (omega arith) (omega arith) _ _ _ c.generator_at.ensures c.matrix_size.ensures c.product.ensures.value

@@ -23,4 +23,4 @@ pub inverse_at-requires : goal.inverse_at-requires
 inverse_at-requires c = (c.requires.1.given, first_back c.args.s c.args.a c.args.key.now c.args.work.now c.args.u c.requires.0 c.requires.1 c.args.j c.wide-i.result c.requires.2 c.wide-i.ensures)
 
 pub returns : goal.returns
-returns c = redone-done c.args.s c.args.a c.args.key.now c.args.work.now c.args.u c.requires.0 c.requires.1 c.args.j c.wide-i.result c.inverse_at.result c.reciprocal.result _ c.requires.2 c.wide-i.ensures c.inverse_at.ensures c.reciprocal.ensures.0 c.product.ensures.0 c.product.ensures.1
+returns c = redone-done c.args.s c.args.a c.args.key.now c.args.work.now c.args.u c.requires.0 c.requires.1 c.args.j c.wide-i.result c.inverse_at.result c.reciprocal.result _ c.requires.2 c.wide-i.ensures c.inverse_at.ensures c.reciprocal.ensures.value c.product.ensures.value c.product.ensures.small
