@@ -3,7 +3,7 @@ use mathlib.Core.Path.{◌≡◌, refl, sym, ap, ap₂, ◌∙◌}
 use mathlib.Core.List.{List, ◌∷◌}
 use Prim.Native.Nat.{ℕ, zero, suc, ◌+◌, ◌-◌, ◌≤◌, ◌<◌}
 use native.Mathlib.Omega.{arith}
-use lib.ListN.{length, get_or, set, length-set, get_or-eq_default}
+use lib.ListN.{length, get_or, set, replicate, length-set, length-replicate, get_or-replicate, get_or-eq_default}
 use lib.Seq.{get_or-set_same, get_or-set_other, ext_get_or}
 use Rattle.lists.specs.Loops.{tab}
 use Rattle.lists.proofs.Tables.{length-tab, get_or-tab}
@@ -12,7 +12,6 @@ use Rattle.gf.specs.Field.{Modulus, width, size, ◌⊕◌, mul, alpha}
 use Rattle.gf.proofs.Xor.{add-lt}
 use Rattle.gf.proofs.Ring.{mul-lt, mul-zero-right, one-lt}
 use Rattle.code.specs.Generator.{with_root, generator, TimesRoot}
-use Rattle.lists.specs.Parts.{Wrote}
 
 module _ (F : Modulus) (a : ℕ) (p : List ℕ) where
   root-length : length (with_root F a p) ≡ suc (length p)
@@ -89,13 +88,12 @@ module _ (F : Modulus) (a : ℕ) (l₀ : List ℕ) where
 abbrev pub Holds : List ℕ → List ℕ → Type 0
 Holds g l = (j : ℕ) → j < length l → get_or l j 0 ≡ get_or g j 0
 
-pub holds-one : (F : Modulus) (n : ℕ) (l l₁ : List ℕ) → Wrote 0 n (λ i. 0) l l₁ → n ≡ length l → 0 < n → Holds (generator F (1 - 1)) (set l₁ 0 1)
+pub holds-one : (F : Modulus) (n : ℕ) (l : List ℕ) → l ≡ replicate n 0 → 0 < n → Holds (generator F (1 - 1)) (set l 0 1)
 unfolding generator
-holds-one F n l l₁ W e pos zero h = get_or-set_same l₁ 0 1 0 (omega (arith, W.long))
-holds-one F n l l₁ W e pos (suc j) h =
-    let k : suc j < length l₁ = rw (length-set l₁ 0 1) at h in
-    let z : 0 + suc j ≡ suc j = omega arith in
-    get_or-set_other l₁ 0 (suc j) 1 0 (omega arith) ∙ rw z at (W.there (suc j) (omega (arith, W.long)))
+holds-one F n l e pos zero h = get_or-set_same l 0 1 0 (omega (arith, ap length e, length-replicate {A = ℕ} n 0))
+holds-one F n l e pos (suc j) h =
+    let k : suc j < length l = rw (length-set l 0 1) at h in
+    get_or-set_other l 0 (suc j) 1 0 (omega arith) ∙ rw e (get_or-replicate n (suc j) 0 0 (omega (arith, ap length e, length-replicate {A = ℕ} n 0)))
 
 pub holds_more : (F : Modulus) (i a : ℕ) (l l' : List ℕ) → Holds (generator F (i - 1)) l → 0 < i → a ≡ alpha F i → TimesRoot F a l l' → Holds (generator F (i + 1 - 1)) l'
 holds_more F zero a l l' H pos e T j h = absurd (omega arith)

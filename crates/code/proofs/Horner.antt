@@ -1,20 +1,15 @@
 -- Sums of c i·α^(ij): their clauses, Horner's rule, and the loop that computes m of them at once by it.
 use mathlib.Core.Path.{◌≡◌, refl, sym, ap, ◌∙◌}
-use mathlib.Core.Logic.{inl, inr}
 use mathlib.Core.List.{List}
 use Prim.Native.Nat.{ℕ, zero, suc, ◌+◌, ◌-◌, ◌*◌, ◌≤◌, ◌<◌}
 use native.Mathlib.Nat.{zero-mul, suc-mul}
 use native.Mathlib.Omega.{arith}
-use lib.ListN.{length, get_or}
+use lib.ListN.{length, get_or, replicate, get_or-replicate, length-replicate}
 use Rattle.gf.specs.Field.{Modulus, ◌⊕◌, size, mul, alpha}
-use Rattle.gf.specs.Runs.{mul_run}
 use Rattle.gf.proofs.Xor.{sums}
 use Rattle.gf.proofs.Ring.{mul_comm, mul_left_comm, mul-add-right, mul-zero-left, mul-one-right, alpha-add, alpha-zero}
 use Rattle.code.specs.Words.{sum_of}
-use Rattle.lists.specs.Parts.{Wrote}
-use Rattle.code.specs.Stages.{Summed}
-use Rattle.theory.proofs.Place.{below_or}
-use Rattle.gf.proofs.Runs.{mul-length, mul-off, mul_at}
+use Rattle.code.specs.Stages.{Elements, Powers, PowerSums}
 
 module _ (F : Modulus) where
   pub sum-nil : (c : ℕ → ℕ) (j : ℕ) → sum_of F 0 c j ≡ 0
@@ -53,67 +48,31 @@ module _ (F : Modulus) where
   sum-horner n c d j h e =
       sum_first n c j ∙ rw (sum-ext n (λ i. c (suc i)) d j e, mul-one-right F (c 0) h)
 
--- ---- the kernel `mul_run`, on two runs of which the second lies after the first
-pub mul-run-wrote : (F : Modulus) (dst src : ℕ) (l : List ℕ) (n : ℕ) → dst + n ≤ src → src + n ≤ length l → Wrote dst n (λ j. mul F (get_or l (dst + j) 0) (get_or l (src + j) 0)) l (mul_run F dst src n l)
-mul-run-wrote F dst src l n o fits =
-    record {
-      long = mul-length F dst src n l;
-      there = mul_at F dst src n l (omega arith) (inl (omega arith));
-      elsewhere = λ i out. mul-off F dst src n l i (below_or i dst (λ h. inl h) (λ h. inr (below_or i (dst + n) (λ g. absurd (out h g)) (λ g. g))));
-    }
+-- ---- the loop: the sums of the numbers from place i of the word on
+pub record SumsFrom (F : Modulus) (word : List ℕ) (from i : ℕ) (l : List ℕ) : Type 0 where
+  pub is : (j : ℕ) → j < length l → get_or l j 0 ≡ sum_of F (length word - i) (λ k. get_or word (i + k) 0) (from + j)
 
--- ---- a turn of Horner's rule: the products, then the sums
-pub horner-wrote : (F : Modulus) (dst m x : ℕ) (l l₁ l₂ : List ℕ) → dst + m + m ≤ length l → l₁ ≡ mul_run F dst (dst + m) m l → Wrote dst m (λ j. get_or l₁ (dst + j) 0 ⊕ x) l₁ l₂
-    → Wrote dst m (λ j. mul F (get_or l (dst + j) 0) (get_or l (dst + m + j) 0) ⊕ x) l l₂
-horner-wrote F dst m x l l₁ l₂ fits e w =
-    let v : Wrote dst m (λ j. mul F (get_or l (dst + j) 0) (get_or l (dst + m + j) 0)) l l₁ = rw e (mul-run-wrote F dst (dst + m) l m (omega arith) fits) in
-    record {
-      long = w.long ∙ v.long;
-      there = λ j h. w.there j h ∙ rw (v.there j h);
-      elsewhere = λ i o. w.elsewhere i o ∙ v.elsewhere i o;
-    }
+module _ (F : Modulus) (word : List ℕ) (from : ℕ) where
+  pub sums-none : (i n : ℕ) (l : List ℕ) → l ≡ replicate n 0 → length word ≤ i → SumsFrom F word from i l
+  sums-none i n l e h =
+      let z : length word - i ≡ 0 = omega arith in
+      record { is = λ j k. let lt : j < n = omega (arith, ap length e, length-replicate {A = ℕ} n 0) in rw (e, z) (get_or-replicate n j 0 0 lt ∙ sym (sum-nil F _ _)) }
 
--- ---- the loop: it starts from l₂, with the sums cleared and the powers filled in, and has taken in the numbers from place i of the word on
-module _ (F : Modulus) (src n from dst m : ℕ) (l₀ l₁ l₂ : List ℕ) (w₁ : Wrote dst m (λ i. 0) l₀ l₁) (w₂ : Wrote (dst + m) m (λ i. alpha F (from + i)) l₁ l₂) where
-  outside : (i : ℕ) → (dst ≤ i → i < dst + (m + m) → ⊥) → get_or l₂ i 0 ≡ get_or l₀ i 0
-  outside i o = w₂.elsewhere i (λ p q. o (omega arith) (omega arith)) ∙ w₁.elsewhere i (λ p q. o p (omega arith))
-
-  pub summed-none : Summed F (src + n) (n - n) from dst m l₂ l₂
-  summed-none =
-      let z : n - n ≡ 0 = omega arith in
+  pub sums-more : (i : ℕ) (l l' powers : List ℕ) → SumsFrom F word from (i + 1) l → Powers F from powers → length powers ≡ length l → length l' ≡ length l → Elements F word → i < length word
+      → ((j : ℕ) → j < length l → get_or l' j 0 ≡ mul F (get_or l j 0) (get_or powers j 0) ⊕ get_or word i 0) → SumsFrom F word from i l'
+  sums-more i l l' powers S P lp ll small h step =
+      let q : length word - i ≡ suc (length word - (i + 1)) = omega arith in
+      let z : i + 0 ≡ i = omega arith in
       record {
-        long = refl;
-        sums = λ j h. w₂.elsewhere (dst + j) (λ p q. omega arith) ∙ w₁.there j h ∙ sym (rw z (sum-nil F _ _));
-        points = λ j h. w₂.there j h;
-        elsewhere = λ i o. refl;
+        is = λ j k.
+            let g : j < length l = omega arith in
+            let p : j < length powers = omega arith in
+            step j g ∙ rw (S.is j g, P.is j p, q) (sym (
+            sum-horner F (length word - (i + 1)) (λ k. get_or word (i + k) 0) (λ k. get_or word (i + 1 + k) 0) (from + j) (rw z (small.small i h))
+            (λ k g. ap (λ (x : ℕ). get_or word x 0) (omega arith)) ∙ rw z));
       }
 
-  module _ (before : src + n ≤ dst) (small : (k : ℕ) → k < n → get_or l₀ (src + k) 0 < size F) where
-    pub summed-more : (i : ℕ) (l l' : List ℕ) → Summed F (src + i) (n - i) from dst m l₂ l → 0 < i → i ≤ n
-        → Wrote dst m (λ j. mul F (get_or l (dst + j) 0) (get_or l (dst + m + j) 0) ⊕ get_or l (src + (i - 1)) 0) l l'
-        → Summed F (src + (i - 1)) (n - (i - 1)) from dst m l₂ l'
-    summed-more i l l' S pos le w =
-        let q : n - (i - 1) ≡ suc (n - i) = omega arith in
-        let at : get_or l (src + (i - 1)) 0 ≡ get_or l₂ (src + (i - 1)) 0 = S.elsewhere (src + (i - 1)) (λ a b. omega arith) in
-        let z : src + (i - 1) + 0 ≡ src + (i - 1) = omega arith in
-        let tiny : get_or l₂ (src + (i - 1)) 0 < size F = rw (outside (src + (i - 1)) (λ a b. omega arith)) (small (i - 1) (omega arith)) in
-        record {
-          long = w.long ∙ S.long;
-          sums = λ j h. w.there j h ∙ rw (S.sums j h, S.points j h, at, q) (sym (
-              sum-horner F (n - i) (λ k. get_or l₂ (src + (i - 1) + k) 0) (λ k. get_or l₂ (src + i + k) 0) (from + j) (rw z tiny)
-              (λ k g. ap (λ (x : ℕ). get_or l₂ x 0) (omega arith)) ∙ rw z));
-          points = λ j h. w.elsewhere (dst + m + j) (λ a b. omega arith) ∙ S.points j h;
-          elsewhere = λ k out. w.elsewhere k (λ a b. out a (omega arith)) ∙ S.elsewhere k out;
-        }
-
-    pub summed-end : (i : ℕ) (l : List ℕ) → Summed F (src + i) (n - i) from dst m l₂ l → i ≤ 0 → Summed F src n from dst m l₀ l
-    summed-end i l S h =
-        let a : src + i ≡ src = omega arith in
-        let b : n - i ≡ n = omega arith in
-        let T : Summed F src n from dst m l₂ l = rw (a, b) at S in
-        record {
-          long = T.long ∙ w₂.long ∙ w₁.long;
-          sums = λ j g. T.sums j g ∙ sum-ext F n (λ k. get_or l₂ (src + k) 0) (λ k. get_or l₀ (src + k) 0) (from + j) (λ k r. outside (src + k) (λ p q. omega arith));
-          points = T.points;
-          elsewhere = λ k o. T.elsewhere k o ∙ outside k o;
-        }
+  pub sums-all : (l : List ℕ) → SumsFrom F word from 0 l → PowerSums F word from l
+  sums-all l S =
+      let z : length word - 0 ≡ length word = omega arith in
+      record { is = λ j h. S.is j h ∙ rw z (sum-ext F (length word) (λ k. get_or word (0 + k) 0) (λ k. get_or word k 0) (from + j) (λ k g. ap (λ (x : ℕ). get_or word x 0) (omega arith))) }

@@ -11,13 +11,11 @@ pub mod Shifts
 pub mod Room
 -- the rest serves the proofs of this crate's own functions, from the loops up to decoding whole
 mod Powers
-mod Writing
 mod Horner
-mod Matrices
+mod Kernels
 mod Collecting
-mod Correcting
-mod Parts
-mod Locating
 mod Settling
+mod Locating
 mod Valuing
 mod Deciding
+mod InArea

@@ -1,31 +1,27 @@
--- The power sums of a word with values added at some places: they are those of the word before and what the values bring. The loops that
--- compute them so.
+-- The power sums of a word with values added at some places: they are those of the word before and what the values bring.
 use mathlib.Core.Path.{◌≡◌, refl, sym, ap, ap₂, ◌∙◌}
 use mathlib.Core.List.{List}
 use Prim.Native.Nat.{ℕ, zero, suc, ◌+◌, ◌*◌, ◌≤◌, ◌<◌}
-use native.Mathlib.Nat.{mul-zero, mul-suc}
+use native.Mathlib.Nat as N
 use native.Mathlib.Numerals.{add-one}
 use native.Mathlib.Omega.{arith}
 use lib.Pow.{pow_pos}
-use lib.ListN.{length, get_or, set, length-set}
+use lib.ListN.{length, get_or, set}
 use lib.Seq.{get_or-set_same, get_or-set_other}
+use Rattle.theory.proofs.Place.{at-or}
 use Rattle.theory.specs.Word.{Places, Off, sum, pow}
 use Rattle.theory.specs.Code.{syn}
 use Rattle.theory.proofs.Field.{add-self, add-self-left, zero-mul, add_comm}
-use Rattle.theory.proofs.Place.{at-or}
 use Rattle.theory.proofs.Sum.{sum-ext, sum-nil, sum-suc, sum-reindex}
 use Rattle.theory.proofs.Distance.{syn-add}
-use Rattle.gf.specs.Field.{Modulus, width, size, ◌⊕◌, mul, alpha}
-use Rattle.gf.specs.Runs.{mul_run}
+use Rattle.gf.specs.Field.{Modulus, width, size, ◌⊕◌, mul, power, alpha}
 use Rattle.gf.proofs.Xor.{add-lt}
-use Rattle.gf.proofs.Ring.{mul-lt, mul_assoc, mul-one-right, alpha-add, alpha-zero}
+use Rattle.gf.proofs.Ring.{mul-lt, mul_comm, mul_assoc, mul-one-right, power_zero, power-suc, power-alpha}
 use Rattle.gf.proofs.Cyclic.{Cyclic}
 use Rattle.gf.proofs.Elements.{El, el, plus, times, el-xor, el-mul, el-injective}
-use Rattle.lists.specs.Parts.{Wrote}
 use Rattle.code.specs.Words.{sum_of}
-use Rattle.code.specs.Stages.{total, value_sum, TotalAdded, SumsAdded}
+use Rattle.code.specs.Stages.{total, brought}
 use Rattle.code.proofs.Bridge.{K, X, point-pow, sum_lt, sum-syn}
-use Rattle.code.proofs.Horner.{mul-run-wrote}
 
 -- ---- sums of numbers
 pub total-none : (f : ℕ → ℕ) → 0 ≡ total 0 f
@@ -36,73 +32,53 @@ total-suc : (n : ℕ) (f : ℕ → ℕ) → total (suc n) f ≡ total n f ⊕ f 
 unfolding total
 total-suc n f = refl
 
-pub total-more : (at i : ℕ) (l : List ℕ) (x : ℕ) → x ≡ total i (λ k. get_or l (at + k) 0) → x ⊕ get_or l (at + i) 0 ≡ total (i + 1) (λ k. get_or l (at + k) 0)
-total-more at i l x e = rw (add-one i, e) (sym (total-suc i (λ k. get_or l (at + k) 0)))
-
-pub total-end : (at i n : ℕ) (l : List ℕ) (x : ℕ) → x ≡ total i (λ k. get_or l (at + k) 0) → i ≤ n → n ≤ i → x ≡ total n (λ k. get_or l (at + k) 0)
-total-end at i n l x e h g = let q : i ≡ n = omega arith in rw q at e
+pub total-more : (i : ℕ) (l : List ℕ) (x y : ℕ) → x ≡ total i (λ k. get_or l k 0) → y ≡ get_or l i 0 → x ⊕ y ≡ total (i + 1) (λ k. get_or l k 0)
+total-more i l x y e q = rw (add-one i, e, q) (sym (total-suc i (λ k. get_or l k 0)))
 
 pub total_ext : (n : ℕ) (f g : ℕ → ℕ) → ((k : ℕ) → k < n → f k ≡ g k) → total n f ≡ total n g
 unfolding total
 total_ext zero f g e = refl
 total_ext (suc n) f g e = ap₂ ◌⊕◌ (total_ext n f g (λ k h. e k (omega arith))) (e n (omega arith))
 
+-- what the values y 0, .., y (r - 1) at the places e 0, .., e (r - 1) bring to the power sum number j
+abbrev pub value_sum : Modulus → ℕ → (ℕ → ℕ) → (ℕ → ℕ) → ℕ → ℕ
+value_sum F r y e j = total r (λ k. mul F (y k) (alpha F (e k * j)))
+
 value-lt : (F : Modulus) (r : ℕ) (y e : ℕ → ℕ) (j : ℕ) → value_sum F r y e j < size F
 unfolding total
 value-lt F zero y e j = pow_pos (width F)
 value-lt F (suc r) y e j = add-lt (width F) _ _ (value-lt F r y e j) (mul-lt F _ _)
 
--- ---- a turn of the loop: the products, their sum, and that sum added
-pub total-added : (F : Modulus) (y q r c x : ℕ) (l l₁ l₂ : List ℕ) → c < y → y + r ≤ q → q + r ≤ length l → l₁ ≡ mul_run F y q r l → x ≡ total r (λ k. get_or l₁ (y + k) 0) → l₂ ≡ set l₁ c (get_or l₁ c 0 ⊕ x) → TotalAdded F y q r c l l₂
-total-added F y q r c x l l₁ l₂ o₁ o₂ fits e ex e₂ =
-    let w : Wrote y r (λ j. mul F (get_or l (y + j) 0) (get_or l (q + j) 0)) l l₁ = rw e (mul-run-wrote F y q l r o₂ fits) in
-    let v = get_or l₁ c 0 ⊕ x in
-    rw e₂ (record {
-      long = simp length-set w.long;
-      values = λ k h. get_or-set_other l₁ c (y + k) v 0 (omega arith) ∙ w.there k h;
-      sum = get_or-set_same l₁ c v 0 (omega (arith, w.long)) ∙ ap₂ ◌⊕◌ (w.elsewhere c (λ a b. omega arith)) (ex ∙ total_ext r _ _ w.there);
-      elsewhere = λ i o d. get_or-set_other l₁ c i v 0 d ∙ w.elsewhere i o;
-    })
+-- ---- the loop over the sums
+-- no turn yet
+pub product-none : (F : Modulus) (y x : ℕ) → y < size F → y ≡ mul F y (power F x 0)
+product-none F y x h = sym (ap (mul F y) (power_zero F x) ∙ mul-one-right F y h)
 
--- ---- the loop
-module _ (F : Modulus) (y q r c at : ℕ) (l₀ : List ℕ) (small : (k : ℕ) → k < r → get_or l₀ (y + k) 0 < size F) (points : (k : ℕ) → k < r → get_or l₀ (q + k) 0 ≡ alpha F (get_or l₀ (at + k) 0)) where
-  abbrev e : ℕ → ℕ
-  e k = get_or l₀ (at + k) 0
+-- one turn more
+pub product-more : (F : Modulus) (y x j z : ℕ) → z ≡ mul F y (power F x j) → mul F z x ≡ mul F y (power F x (j + 1))
+product-more F y x j z e = rw (e, add-one j) (mul_assoc F y (power F x j) x ∙ ap (mul F y) (mul_comm F (power F x j) x ∙ sym (power-suc F x j)))
 
-  pub sums_none : SumsAdded F y r c 0 (λ k. get_or l₀ (at + k) 0) l₀ l₀
-  sums_none =
-      record {
-        long = refl;
-        sums = λ j h. absurd (omega arith);
-        values = λ k h. sym (rw (mul-zero (e k), alpha-zero F) (mul-one-right F (get_or l₀ (y + k) 0) (small k h)));
-        elsewhere = λ i o p. refl;
-      }
+-- the products, added up
+pub brought-is : (F : Modulus) (y x l : List ℕ) (j n : ℕ) → length l ≡ length x → ((k : ℕ) → k < length x → get_or l k 0 ≡ mul F (get_or y k 0) (power F (get_or x k 0) (j + 1))) → n ≡ total (length l) (λ k. get_or l k 0) → n ≡ brought F y x (1 + j)
+brought-is F y x l j n e p q =
+    let s : j + 1 ≡ 1 + j = omega arith in
+    q ∙ rw e (total_ext (length x) _ _ (λ k h. p k h ∙ ap (λ (i : ℕ). mul F (get_or y k 0) (power F (get_or x k 0) i)) s))
 
-  module _ (j m : ℕ) (l l' : List ℕ) (S : SumsAdded F y r c j (λ k. get_or l₀ (at + k) 0) l₀ l) (lt : j < m) (o₁ : c + m ≤ y) (o₂ : y + r ≤ q) (w : TotalAdded F y q r (c + j) l l') where
-    up : (x k : ℕ) → mul F (mul F x (alpha F (e k * j))) (alpha F (e k)) ≡ mul F x (alpha F (e k * (1 + j)))
-    up x k =
-        let z : e k * j + e k ≡ e k * suc j = omega (arith, mul-suc (e k) j) in
-        let s : suc j ≡ 1 + j = omega arith in
-        mul_assoc F x _ _ ∙ ap (mul F x) (sym (alpha-add F (e k * j) (e k)) ∙ ap (alpha F) (z ∙ ap (λ (i : ℕ). e k * i) s))
+-- a sum is done, and those after it stay
+pub sums-done : (F : Modulus) (y x : List ℕ) (j : ℕ) (s₀ s : List ℕ) (n : ℕ) → j < length s → ((i : ℕ) → i < j → get_or s i 0 ≡ get_or s₀ i 0 ⊕ brought F y x (1 + i)) → get_or s j 0 ≡ get_or s₀ j 0 → n ≡ brought F y x (1 + j)
+    → (i : ℕ) → i < j + 1 → get_or (set s j (get_or s j 0 ⊕ n)) i 0 ≡ get_or s₀ i 0 ⊕ brought F y x (1 + i)
+sums-done F y x j s₀ s n lt done here e i h =
+    at-or i j
+    (λ q. rw q (get_or-set_same s j (get_or s j 0 ⊕ n) 0 lt ∙ ap₂ ◌⊕◌ here e))
+    (λ d. get_or-set_other s j i (get_or s j 0 ⊕ n) 0 d ∙ done i (omega arith))
 
-    product : (k : ℕ) → k < r → mul F (get_or l (y + k) 0) (get_or l (q + k) 0) ≡ mul F (get_or l₀ (y + k) 0) (alpha F (e k * (1 + j)))
-    product k h =
-        ap₂ (mul F) (S.values k h) (S.elsewhere (q + k) (λ a b. omega arith) (λ a b. omega arith) ∙ points k h) ∙ up (get_or l₀ (y + k) 0) k
+pub sums-rest : (j : ℕ) (s₀ s : List ℕ) (v : ℕ) → ((i : ℕ) → j ≤ i → get_or s i 0 ≡ get_or s₀ i 0) → (i : ℕ) → j + 1 ≤ i → get_or (set s j v) i 0 ≡ get_or s₀ i 0
+sums-rest j s₀ s v rest i h = get_or-set_other s j i v 0 (omega arith) ∙ rest i (omega arith)
 
-    pub sums-more : SumsAdded F y r c (j + 1) (λ k. get_or l₀ (at + k) 0) l₀ l'
-    sums-more =
-        let s : 1 + j ≡ j + 1 = omega arith in
-        record {
-          long = w.long ∙ S.long;
-          sums = λ i h. at-or i j
-              (λ z. rw z (w.sum ∙ ap₂ ◌⊕◌ (S.elsewhere (c + j) (λ a b. omega arith) (λ a b. omega arith)) (total_ext r _ _ product)))
-              (λ d. w.elsewhere (c + i) (λ a b. omega arith) (omega arith) ∙ S.sums i (omega arith));
-          values = λ k h. w.values k h ∙ product k h ∙ ap (λ (i : ℕ). mul F (get_or l₀ (y + k) 0) (alpha F (e k * i))) s;
-          elsewhere = λ i o p. w.elsewhere i p (λ z. o (omega arith) (omega arith)) ∙ S.elsewhere i (λ a b. o a (omega arith)) p;
-        }
-
-  pub sums-end : (j m : ℕ) (l : List ℕ) → SumsAdded F y r c j (λ k. get_or l₀ (at + k) 0) l₀ l → j ≤ m → m ≤ j → SumsAdded F y r c m (λ k. get_or l₀ (at + k) 0) l₀ l
-  sums-end j m l S h g = let z : j ≡ m = omega arith in rw z at S
+-- at the points of places
+pub brought-sum : (F : Modulus) (y x : List ℕ) (e : ℕ → ℕ) (j : ℕ) → ((k : ℕ) → k < length x → get_or x k 0 ≡ alpha F (e k)) → brought F y x j ≡ value_sum F (length x) (λ k. get_or y k 0) e j
+brought-sum F y x e j p =
+    total_ext (length x) _ _ (λ k h. ap (mul F (get_or y k 0)) (ap (λ (z : ℕ). power F z j) (p k h) ∙ power-alpha F (e k) j ∙ ap (alpha F) (N.mul_comm j (e k))))
 
 -- ---- a word b that is the word a with values added at r places
 module _ (F : Modulus) (field : Cyclic F) where

@@ -28,3 +28,10 @@ places_at n t = points_at n t + n
 -- how many numbers decoding works in
 abbrev pub decode_room : ℕ → ℕ → ℕ
 decode_room n t = places_at n t + t
+
+-- where the word lies in a slice of its own: how many numbers decoding works in behind the matrix, and with it
+abbrev pub rest_room : ℕ → ℕ → ℕ
+rest_room n t = t + t + (t + t) + (t + 1) + n + n + t
+
+abbrev pub decoding_room : ℕ → ℕ → ℕ
+decoding_room n t = t * (t + 1) + rest_room n t

@@ -5,3 +5,4 @@ pub mod Area
 pub mod Decoding
 pub mod Generator
 pub mod Stages
+pub mod Inside

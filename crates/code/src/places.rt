@@ -1,60 +1,85 @@
 // The places that may be wrong: the roots of the locator.
-ghost use Rattle.std.specs.Prelude.{◌≡◌, ◌+◌, ◌*◌, ◌≤◌, ◌<◌, length, get_or};
+ghost use Rattle.std.specs.Prelude.{◌≡◌, ◌≢◌, ℕ, ◌+◌, ◌*◌, ◌≤◌, ◌<◌, length, get_or, take};
+ghost use Rattle.gf.specs.Field.{order};
 ghost use Rattle.gf.specs.Ten.{ten};
-ghost use Rattle.code.specs.Stages.{Rows, Kept, Collected, Ready, Placed, SameWord};
+ghost use Rattle.linear.specs.Matrix.{entry};
+ghost use Rattle.code.specs.Stages.{Elements, Powers, Equation, Kept, Collected, Suspects};
 
-// The matrix of the key equations at the front: t rows of t + 1 of the numbers from src on, each from one place further on.
-fn key_rows(s: &mut [u16], t: usize, src: usize)
-    requires { (t * (t + 1) ≤ src) × (src + (t + t) ≤ length s.old) }
-    ensures { Rows t (t + 1) (λ i j. get_or s.old (src + i + j) 0) s.old s.new }
+use crate::sums::power_sums;
+
+// Row i of a system of equations: the coefficients, and the right side after them.
+pub fn put_equation(matrix: &mut [u16], i: usize, left: &[u16], right: u16)
+    requires fits { i * (length left.now + 1) + (length left.now + 1) ≤ length matrix.old }
+    ensures { Equation i left.now right matrix.old matrix.new }
 {
-    let cols = t + 1;
-    let mut i = 0;
-    while i < t {
-        crate::runs::copy_run(s, i * cols, src + i, cols);
-        i += 1;
+    let r = left.len();
+    let at = i * (r + 1);
+    matrix[at..at + r].copy_from_slice(left);
+    matrix[at + r] = right;
+}
+
+// The key equations: row i is t + 1 sums, from number i on.
+fn key_rows(matrix: &mut [u16], sums: &[u16], t: usize)
+    requires matrix { length matrix.old ≡ t * (t + 1) }
+    requires sums { length sums.now ≡ t + t }
+    ensures { (i j : ℕ) → i < t → j < t + 1 → entry (t + 1) matrix.new i j ≡ get_or sums.now (i + j) 0 }
+{
+    for i in 0..t {
+        put_equation(matrix, i, &sums[i..i + t], sums[i + t]);
     }
 }
 
-// Adds the place p to the r from `at` on if the number at v is 0 and there are fewer than t. Answers how many there are.
-fn keep(s: &mut [u16], v: usize, at: usize, t: usize, p: usize, r: usize) -> usize
-    requires { (v < length s.old) × (at + t ≤ length s.old) × (p < 65536) × (r ≤ t) }
-    ensures { Kept v at t p s.old r s.new result }
+// Adds the place p to the `count` places if the value there is 0 and there is room. Answers how many there are.
+fn keep(places: &mut [u16], count: usize, p: usize, value: u16) -> usize
+    requires place { p < 65536 }
+    requires few { count ≤ length places.old }
+    ensures { Kept p value places.old count places.new result }
 {
-    if s[v] != 0 {
-        return r;
+    if value != 0 {
+        return count;
     }
-    if t <= r {
-        return r;
+    if places.len() <= count {
+        return count;
     }
-    s[at + r] = p as u16;
-    r + 1
+    places[count] = p as u16;
+    count + 1
 }
 
-// The places below n where the numbers from v on are 0, at most t of them, come to `at`, after these. Answers how many.
-fn collect(s: &mut [u16], v: usize, n: usize, at: usize, t: usize) -> usize
-    requires { (v + n ≤ at) × (at + t ≤ length s.old) × (n < 65536) }
-    ensures { Collected v n at t s.old s.new result }
+// The places where the value is 0, as many as there is room for. Answers how many.
+fn collect(values: &[u16], places: &mut [u16]) -> usize
+    requires short { length values.now < 65536 }
+    ensures { Collected values.now (length values.now) places.new result }
 {
-    let mut r = 0;
-    let mut p = 0;
-    while p < n {
-        r = keep(s, v + p, at, t, p, r);
-        p += 1;
+    let mut count = 0;
+    for (p, value) in values.iter().enumerate() {
+        count = keep(places, count, p, *value);
     }
-    r
+    count
 }
 
-// Finds the places where a code word near the word can differ from it. Answers how many.
-pub fn find_places(s: &mut [u16], n: usize, t: usize) -> usize
-    requires { Ready ten n t s.old }
-    ensures { Placed ten n t s.new result × SameWord n t s.old s.new }
+// Finds the places where a code word near a word with these power sums can differ from it. Answers how many.
+pub fn find_places(
+    sums: &[u16],
+    matrix: &mut [u16],
+    locator: &mut [u16],
+    values: &mut [u16],
+    points: &mut [u16],
+    places: &mut [u16],
+) -> usize
+    requires small { Elements ten sums.now }
+    requires double { length sums.now ≡ length places.old + length places.old }
+    requires matrix { length matrix.old ≡ length places.old * (length places.old + 1) }
+    requires locator { length locator.old ≡ length places.old + 1 }
+    requires points { length points.old ≡ length values.old }
+    requires order { length values.old ≤ order ten }
+    requires half { length places.old + length places.old ≤ length values.old }
+    ensures few { result ≤ length places.old }
+    ensures suspects { Suspects ten (length values.old) sums.now (take result places.new) }
+    ensures points { Powers ten 0 points.new }
 {
-    let sums = t * (t + 1) + n;
-    let locator = sums + (t + t + (t + t));
-    let values = locator + (t + 1);
-    key_rows(s, t, sums);
-    crate::solve::solve(s, t, locator);
-    crate::sums::power_sums(s, locator, t + 1, 0, values, n);
-    collect(s, values, n, values + n + n, t)
+    let t = places.len();
+    key_rows(matrix, sums, t);
+    linear::kernel::kernel_vector(matrix, t, t + 1, locator);
+    power_sums(locator, 0, values, points);
+    collect(values, places)
 }

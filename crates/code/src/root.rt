@@ -5,13 +5,11 @@ ghost use Rattle.code.specs.Generator.{TimesRoot};
 
 // The polynomial with these coefficients, of which the last is 0, times (x - a).
 pub fn times_root(out: &mut [u16], a: u16)
-    requires { 0 < length out.old }
+    requires some { 0 < length out.old }
     ensures { TimesRoot ten a out.old out.new }
 {
-    let mut j = out.len() - 1;
-    while 0 < j {
+    for j in (1..out.len()).rev() {
         out[j] = out[j - 1] ^ gf::product(a, out[j]);
-        j -= 1;
     }
     out[0] = gf::product(a, out[0]);
 }

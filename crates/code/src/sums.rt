@@ -1,31 +1,56 @@
 // Power sums, all of them at once by Horner's rule.
-ghost use Rattle.std.specs.Prelude.{◌≡◌, ℕ, ◌+◌, ◌≤◌, ◌<◌, length, get_or};
-ghost use Rattle.gf.specs.Field.{◌⊕◌, size, mul};
+ghost use Rattle.std.specs.Prelude.{◌≡◌, ◌↔◌, ℕ, ◌+◌, ◌<◌, length, get_or, IsTrue};
+ghost use Rattle.gf.specs.Field.{◌⊕◌, mul};
 ghost use Rattle.gf.specs.Ten.{ten};
-ghost use Rattle.lists.specs.Parts.{Wrote};
-ghost use Rattle.code.specs.Stages.{Summed};
+ghost use Rattle.code.specs.Stages.{Elements, Powers, PowerSums, AllZero};
 
-// One turn of Horner's rule: each of the m numbers from dst on is multiplied by its partner, m places further on, and
-// the number at `at` is added.
-fn horner(s: &mut [u16], at: usize, dst: usize, m: usize)
-    requires { (at < length s.old) × (dst + m + m ≤ length s.old) }
-    ensures { Wrote dst m (λ j. mul ten (get_or s.old (dst + j) 0) (get_or s.old (dst + m + j) 0) ⊕ get_or s.old at 0) s.old s.new }
+// The powers of α from number `from` on.
+fn fill_powers(powers: &mut [u16], from: usize)
+    ensures { Powers ten from powers.new }
 {
-    let c = s[at];
-    gf::mul_run(s, dst, dst + m, m);
-    crate::runs::add_to_all(s, dst, m, c);
+    let alpha = gf::power(1);
+    let mut next = gf::power(from);
+    for i in 0..powers.len() {
+        powers[i] = next;
+        next = gf::product(alpha, next);
+    }
 }
 
-// The m sums from number `from` on of the n numbers from src on. They come to dst, which lies after these.
-pub fn power_sums(s: &mut [u16], src: usize, n: usize, from: usize, dst: usize, m: usize)
-    requires { (src + n ≤ dst) × (dst + m + m ≤ length s.old) × ((k : ℕ) → k < n → get_or s.old (src + k) 0 < size ten) }
-    ensures { Summed ten src n from dst m s.old s.new }
+// x is added to each number.
+fn add_to_all(sums: &mut [u16], x: u16)
+    ensures { (j : ℕ) → j < length sums.old → get_or sums.new j 0 ≡ get_or sums.old j 0 ⊕ x }
 {
-    crate::runs::clear(s, dst, m);
-    crate::runs::fill_powers(s, dst + m, m, from);
-    let mut i = n;
-    while 0 < i {
-        i -= 1;
-        horner(s, src + i, dst, m);
+    for i in 0..sums.len() {
+        sums[i] ^= x;
     }
+}
+
+// One turn of Horner's rule: each sum times its power, and x added.
+fn horner(sums: &mut [u16], powers: &[u16], x: u16)
+    requires same { length powers.now ≡ length sums.old }
+    ensures { (j : ℕ) → j < length sums.old → get_or sums.new j 0 ≡ mul ten (get_or sums.old j 0) (get_or powers.now j 0) ⊕ x }
+{
+    gf::multiply(sums, powers);
+    add_to_all(sums, x);
+}
+
+// The word's power sums from number `from` on, with the powers of α that they take.
+pub fn power_sums(word: &[u16], from: usize, sums: &mut [u16], powers: &mut [u16])
+    requires same { length powers.old ≡ length sums.old }
+    requires small { Elements ten word.now }
+    ensures sums { PowerSums ten word.now from sums.new }
+    ensures powers { Powers ten from powers.new }
+{
+    sums.fill(0);
+    fill_powers(powers, from);
+    for i in (0..word.len()).rev() {
+        horner(sums, powers, word[i]);
+    }
+}
+
+// Whether the numbers are all 0.
+pub fn all_zero(sums: &[u16]) -> bool
+    ensures { IsTrue result ↔ AllZero sums.now }
+{
+    sums.iter().all(|x| *x == 0)
 }

@@ -1,21 +1,20 @@
 -- The key equations, their kernel vector, its values at the points, and the places where these are 0.
-use Rattle.std.proofs.Common.{rules}
-use Rattle.code.proofs.Locating.{key-matrix, locator-small, located, located-word}
+use Rattle.std.proofs.Common.{arith, length}
 use Rattle.gf.proofs.Ten.{ten-field}
 use Rattle.gf.specs.Ten.{ten}
+use Rattle.code.proofs.Locating.{key-matrix, kernel-is, locator-small, located}
 use Rattle.code.proofs.places.find_places.Goals as goal
 
-pub solve-requires : goal.solve-requires
-solve-requires c = (key-matrix _ _ _ _ _ c.requires c.key_rows.ensures, search rules, search rules, search rules)
+pub kernel_vector-requires-clause-matrix : goal.kernel_vector-requires-clause-matrix
+kernel_vector-requires-clause-matrix c = key-matrix ten _ _ _ c.requires.small c.requires.double (omega (arith, c.key_rows.auto.matrix, c.requires.matrix)) c.key_rows.ensures
 
-pub power_sums-requires : goal.power_sums-requires
-power_sums-requires c = (search rules, search rules, locator-small ten ten-field _ _ _ _ _ c.requires c.key_rows.ensures c.solve.ensures)
+pub power_sums-requires-clause-small : goal.power_sums-requires-clause-small
+power_sums-requires-clause-small c =
+    let n = length c.args.values.now in
+    let M = key-matrix ten _ _ _ c.requires.small c.requires.double (omega (arith, c.key_rows.auto.matrix, c.requires.matrix)) c.key_rows.ensures in
+    locator-small ten ten-field n _ _ _ c.requires.double M c.key_rows.ensures _ (kernel-is ten _ _ _ _ _ _ c.kernel_vector.ensures)
 
-pub returns : goal.returns
-returns c =
-    let pre = c.requires in
-    let rows = c.key_rows.ensures in
-    let vector = c.solve.ensures in
-    let values = c.power_sums.ensures in
-    let found = c.collect.ensures in
-    (located ten ten-field _ _ _ _ _ pre rows vector _ values _ _ found, located-word ten ten-field _ _ _ _ _ pre rows vector _ values _ _ found)
+pub returns-clause-suspects : goal.returns-clause-suspects
+returns-clause-suspects c =
+    let M = key-matrix ten _ _ _ c.requires.small c.requires.double (omega (arith, c.key_rows.auto.matrix, c.requires.matrix)) c.key_rows.ensures in
+    located ten ten-field _ _ _ _ c.requires.double M c.key_rows.ensures _ _ (kernel-is ten _ _ _ _ _ _ c.kernel_vector.ensures) c.power_sums.ensures.sums c.power_sums.auto.sums c.requires.order _ _ c.collect.auto.places (rw c.power_sums.auto.sums at c.collect.ensures)

@@ -1,10 +1,7 @@
--- The first i rows are filled, and the rest is as it was.
-use Rattle.std.proofs.Common.{◌≡◌, ◌+◌, ◌-◌, ◌≤◌, length, get_or}
-use Rattle.code.specs.Stages.{Rows}
+-- The first i rows are filled.
+use Rattle.std.proofs.Common.{◌≡◌, ℕ, ◌+◌, ◌<◌, get_or}
+use Rattle.linear.specs.Matrix.{entry}
 use Rattle.code.proofs.places.key_rows.Given as goal
 
 abbrev pub invariant-loop-i : goal.invariant-loop-i
-invariant-loop-i l = (l.i ≤ l.t) × (l.cols ≡ l.t + 1) × (length l.s ≡ length l.initial.s) × Rows l.i (l.t + 1) (λ a b. get_or l.initial.s (l.src + a + b) 0) l.initial.s l.s
-
-abbrev pub decreases-loop-i : goal.decreases-loop-i
-decreases-loop-i l = l.t - l.i
+invariant-loop-i l = (a b : ℕ) → a < l.i → b < l.t + 1 → entry (l.t + 1) l.matrix a b ≡ get_or l.sums (a + b) 0

@@ -1,7 +1,9 @@
--- The products, and then the sums.
-use Rattle.std.proofs.Common.{rules}
-use Rattle.code.proofs.Horner.{horner-wrote}
+-- The products, then the sums.
+use Rattle.std.proofs.Common.{ap, ◌∙◌, arith, ℕ}
+use Rattle.gf.specs.Field.{◌⊕◌}
+use Rattle.gf.specs.Ten.{ten}
+use Rattle.gf.proofs.Rows.{row_times-at}
 use Rattle.code.proofs.sums.horner.Goals as goal
 
 pub returns : goal.returns
-returns c = horner-wrote _ _ _ _ _ _ _ (search rules) c.mul_run.ensures c.add_to_all.ensures
+returns c j h = c.add_to_all.ensures j (omega arith) ∙ ap (λ (x : ℕ). x ⊕ c.args.x) (rw c.multiply.ensures (row_times-at ten _ _ j h))

@@ -1,10 +1,6 @@
--- The first k numbers are gathered, and the rest is as it was.
-use Rattle.std.proofs.Common.{◌≡◌, ◌+◌, ◌-◌, ◌≤◌, length, get_or}
-use Rattle.lists.specs.Parts.{Wrote}
+-- The first k numbers are gathered.
+use Rattle.std.proofs.Common.{◌≡◌, ℕ, ◌<◌, get_or}
 use Rattle.code.proofs.values.gather.Given as goal
 
 abbrev pub invariant-loop-k : goal.invariant-loop-k
-invariant-loop-k l = (l.k ≤ l.r) × (length l.s ≡ length l.initial.s) × Wrote l.dst l.k (λ j. get_or l.initial.s (l.src + get_or l.initial.s (l.at + j) 0) 0) l.initial.s l.s
-
-abbrev pub decreases-loop-k : goal.decreases-loop-k
-decreases-loop-k l = l.r - l.k
+invariant-loop-k l = (i : ℕ) → i < l.k → get_or l.to i 0 ≡ get_or l.from (get_or l.places i 0) 0
