@@ -1,8 +1,7 @@
--- What decoding answers (01, Padding, sealing, opening: "find the code word within t places").
-use Rattle.std.specs.Prelude.{◌≡◌, List, ℕ, ◌+◌, ◌<◌, ◌≤◌, length, get_or}
-use Rattle.gf.specs.Field.{Modulus, size, order}
+-- What decoding answers: the code word within t places.
+use Rattle.std.specs.Prelude.{◌≡◌, List, ℕ, ◌+◌, ◌≤◌}
+use Rattle.gf.specs.Field.{Modulus}
 use Rattle.code.specs.Words.{CodeWord, apart}
-use Rattle.code.specs.Area.{decode_room}
 use Rattle.std.specs.Prelude.{Result, Ok, Err}
 use Rattle.code.specs.declared.Undecodable.{Undecodable}
 
@@ -15,11 +14,3 @@ pub record Near (F : Modulus) (n t : ℕ) (y c : List ℕ) : Type 0 where
 abbrev pub Decodes : Modulus → ℕ → ℕ → List ℕ → Result Unit Undecodable → List ℕ → Type 0
 Decodes F n t y (Ok x) z = Near F n t y z
 Decodes F n t y (Err x) z = (z ≡ y) × ((c : List ℕ) → Near F n t y c → ⊥)
-
--- what decoding asks: a word of n elements, n at most the number of points, 2t at most n, and a work area with room
-pub record Lent (F : Modulus) (n t : ℕ) (word work : List ℕ) : Type 0 where
-  pub long : length word ≡ n
-  pub half : t + t ≤ n
-  pub order : n ≤ order F
-  pub small : (i : ℕ) → i < n → get_or word i 0 < size F
-  pub room : decode_room n t ≤ length work

@@ -7,12 +7,12 @@ use Rattle.gf.specs.Field.{Modulus, ◌⊕◌, mul, alpha}
 unfoldable pub with_root : Modulus → ℕ → List ℕ → List ℕ
 with_root F a p = tab (suc (length p)) (λ j. get_or (0 ∷ p) j 0 ⊕ mul F a (get_or p j 0))
 
--- 01, Key setup: the product of (x - α^i) for i = 1..s
+-- the product of (x - α^i) for i = 1..s
 unfoldable pub generator : Modulus → ℕ → List ℕ
 generator F zero = 1 ∷ []
 generator F (suc s) = with_root F (alpha F (suc s)) (generator F s)
 
--- 01, Key setup: G0 is row shifts of the generator. Row i, of n numbers: g, i places further up
+-- the generator's matrix G0 is row shifts of the generator. Row i, of n numbers: g, i places further up
 unfoldable pub shifted : ℕ → ℕ → List ℕ → List ℕ
 shifted n i g = tab n (λ j. pick (ltb j i) 0 (get_or g (j - i) 0))
 

@@ -1,5 +1,5 @@
--- The Reed-Solomon code of 01, in the order of reading: words and code words, what decoding answers and the room it
--- needs, the generator; then what its stages leave in the work area.
+-- The Reed-Solomon code, in the order of reading: words and code words, what decoding answers and the room it
+-- needs, the generator; then what its stages leave in their parts of the work area.
 pub mod Words
 pub mod Area
 pub mod Decoding

@@ -8,11 +8,11 @@ unfoldable pub sum_of : Modulus → ℕ → (ℕ → ℕ) → ℕ → ℕ
 sum_of F zero c j = 0
 sum_of F (suc n) c j = sum_of F n c j ⊕ mul F (c n) (alpha F (n * j))
 
--- 01, Key setup: the sum of c_i·α^(ij) over the places i below n of a word
+-- the sum of c_i·α^(ij) over the places i below n of a word
 abbrev pub power_sum : Modulus → ℕ → List ℕ → ℕ → ℕ
 power_sum F n word j = sum_of F n (λ i. get_or word i 0) j
 
--- 01, Key setup: the code is the words (c_0..c_{n-1}) whose sum of c_i·α^(ij) is 0 for j = 1..n-k; here s = n - k
+-- the code is the words (c_0..c_{n-1}) whose sum of c_i·α^(ij) is 0 for j = 1..n-k; here s = n - k
 pub record CodeWord (F : Modulus) (n s : ℕ) (word : List ℕ) : Type 0 where
   pub long : length word ≡ n
   pub small : (i : ℕ) → i < n → get_or word i 0 < size F

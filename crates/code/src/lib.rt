@@ -83,7 +83,12 @@ fn correct(
 }
 
 // Decodes a word in place, in a matrix and the rest of the work area.
-fn decode_parts(word: &mut [u16], t: usize, matrix: &mut [u16], rest: &mut [u16]) -> Result<(), Undecodable>
+fn decode_parts(
+    word: &mut [u16],
+    t: usize,
+    matrix: &mut [u16],
+    rest: &mut [u16],
+) -> Result<(), Undecodable>
     requires half { t + t ≤ length word.old }
     requires order { length word.old ≤ order ten }
     requires small { (i : ℕ) → i < length word.old → get_or word.old i 0 < size ten }
@@ -91,7 +96,14 @@ fn decode_parts(word: &mut [u16], t: usize, matrix: &mut [u16], rest: &mut [u16]
     requires room { rest_room (length word.old) t ≤ length rest.old }
     ensures { Decodes ten (length word.old) t word.old result word.new }
 {
-    let Rooms { sums, powers, locator, values, points, places } = Rooms::cut(word.len(), t, rest);
+    let Rooms {
+        sums,
+        powers,
+        locator,
+        values,
+        points,
+        places,
+    } = Rooms::cut(word.len(), t, rest);
     power_sums(word, 1, sums, powers);
     if all_zero(sums) {
         return Ok(());

@@ -1,4 +1,4 @@
--- The count of row operations (02, ticket 11): a column takes at most a swap, a scaling and an addition to every other row, so at most
+-- The count of row operations: a column takes at most a swap, a scaling and an addition to every other row, so at most
 -- rows + 1 operations.
 use mathlib.Core.Path.{◌≡◌, refl}
 use mathlib.Core.List.{List}

@@ -15,7 +15,7 @@ use Rattle.gf.proofs.Ring.{mul-lt}
 use Rattle.bits.specs.Bits.{elements}
 use Rattle.perm.proofs.Permutations.{entries-low}
 use Rattle.code.specs.Area.{word_at, decode_room}
-use Rattle.code.specs.Stages.{Held, DecodesIn}
+use Rattle.code.specs.Inside.{Held, DecodesIn}
 use Rattle.std.specs.Prelude.{Result, Ok, Err}
 use Rattle.code.specs.declared.Undecodable.{Undecodable}
 use Rattle.sets.specs.declared.Set.{Set}

@@ -1,4 +1,4 @@
--- The code, by its power sums, and its generator (01, Key setup: "The code").
+-- The code, by its power sums, and its generator.
 use Rattle.std.specs.Prelude.{◌≡◌, ◌≢◌, ℕ, zero, suc, ◌-◌, ◌<◌}
 use Rattle.std.proofs.Math.Decide.{dec_lt}
 use Rattle.theory.specs.Field.{Field}
@@ -18,7 +18,7 @@ module _ (K : Field) where
   unfoldable pub syn : (ℕ → F) → ℕ → (ℕ → F) → ℕ → F
   syn X n c j = sum K (λ i. c i ⊗ pow K (X i) j) n
 
-  -- 01, Key setup: the code is the words (c_0..c_{n-1}) whose sum of c_i·α^(ij) is 0 for j = 1..n-k; here s = n - k
+  -- the code is the words (c_0..c_{n-1}) whose sum of c_i·α^(ij) is 0 for j = 1..n-k; here s = n - k
   abbrev pub IsCode : (ℕ → F) → ℕ → ℕ → (ℕ → F) → Type 0
   IsCode X n s c = (j : ℕ) → j < s → syn X n c (suc j) ≡ 𝟎
 
@@ -44,10 +44,10 @@ module _ (K : Field) where
   unfoldable pub shifted : (ℕ → F) → ℕ → ℕ → F
   shifted g i j = pick (dec_lt j i) 𝟎 (g (j - i))
 
-  -- 01, Key setup: the generator, the product of (x - α^i) for i = 1..s
+  -- the generator, the product of (x - α^i) for i = 1..s
   unfoldable pub gen : F → ℕ → ℕ → F
   gen α s = product (λ i. pow K α (suc i)) s
 
-  -- 01, Key setup: G0 is row shifts of the generator; the entry at row i, column j
+  -- the generator's matrix G0 is row shifts of the generator; the entry at row i, column j
   unfoldable pub G0 : F → ℕ → ℕ → ℕ → F
   G0 α s i = shifted (gen α s) i

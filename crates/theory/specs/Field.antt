@@ -1,4 +1,4 @@
--- A field of characteristic 2 (01, Field and bits: addition is exclusive or) with a decidable zero. All of this crate stands over
+-- A field of characteristic 2 (addition is exclusive or) with a decidable zero. All of this crate stands over
 -- such a record.
 use Rattle.std.specs.Prelude.{◌≡◌, ◌≢◌}
 

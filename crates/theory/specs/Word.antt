@@ -52,7 +52,7 @@ module _ (K : Field) where
   unfoldable pub nz : F → ℕ
   nz a = pick (dec a) 0 1
 
-  -- the weight: how many of the first n places are not zero (01, Padding, sealing, opening: "within t places")
+  -- the weight: how many of the first n places are not zero
   unfoldable pub wt : (ℕ → F) → ℕ → ℕ
   wt f zero = 0
   wt f (suc n) = wt f n + nz (f n)

@@ -1,2 +1,0 @@
--- The laws of the tests before decoding.
-mod Laws
