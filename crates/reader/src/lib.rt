@@ -1,7 +1,6 @@
 // Keys are read element after element by a reader that remembers its bytes and its bit place.
 //
-// Each function over the struct is thin: it takes the reader apart and calls a function on the bytes and the place. `element`
-// and `elements` have plain parameters and use a reader inside; whoever calls those two sees no reader.
+// `element` and `elements` have plain parameters and use a reader inside; whoever calls those two sees no reader.
 #![tactic(auto)]
 
 ghost use Rattle.std.specs.Prelude.{◌≡◌, ◌+◌, ◌*◌, ◌<◌, ◌≤◌, ◌^◌, length};
@@ -14,69 +13,60 @@ pub struct Reader<'a> {
     pub bit: usize,
 }
 
-// An element, and the reader past it.
-#[derive(Clone, Copy)]
-pub struct Taken<'a> {
-    pub value: u16,
-    pub rest: Reader<'a>,
-}
-
-// A reader at a bit place.
-pub fn at<'a>(bytes: &'a [u8], bit: usize) -> Reader<'a>
-    ensures { (result.bytes ≡ bytes.entry) × (result.bit ≡ bit) }
-{
-    Reader { bytes, bit }
-}
-
-// The next element of m bits, and the reader past it.
-pub fn next<'a>(r: Reader<'a>, m: usize) -> Taken<'a>
-    requires { (m ≤ 16) × (r.bit + m < 2 ^ 64) }
-    ensures { (result.value ≡ bits_at m r.entry.bytes.now r.entry.bit) × (result.value < 2 ^ m) × (result.rest ≡ past r.entry m) }
-{
-    let value = bits::bits_at(r.bytes, m, r.bit);
-    Taken {
-        value,
-        rest: Reader {
-            bytes: r.bytes,
-            bit: r.bit + m,
-        },
+impl<'a> Reader<'a> {
+    // A reader at a bit place.
+    pub fn at(bytes: &'a [u8], bit: usize) -> Reader<'a>
+        ensures bytes { result.bytes ≡ bytes.entry }
+        ensures bit { result.bit ≡ bit }
+    {
+        Reader { bytes, bit }
     }
-}
 
-// Elements from a bit place on, as many as `out` takes; answers the place after them.
-fn fill_at(bytes: &[u8], m: usize, bit: usize, out: &mut [u16]) -> usize
-    requires { (m ≤ 16) × (bit + m * length out.old ≤ 8 * length bytes.now) × (bit + m * length out.old < 2 ^ 64) }
-    ensures { (result ≡ bit + m * length out.old) × (out.new ≡ elements_at (length out.old) m bytes.now bit) }
-{
-    let n = out.len();
-    bits::unpack_at(bytes, m, bit, out);
-    bit + m * n
-}
+    // The next element of m bits.
+    pub fn next(&mut self, m: usize) -> u16
+        requires narrow { m ≤ 16 }
+        requires near { self.old.bit + m < 2 ^ 64 }
+        ensures value { result ≡ bits_at m self.old.bytes.now self.old.bit }
+        ensures small { result < 2 ^ m }
+        ensures rest { self.new ≡ past self.old m }
+    {
+        let value = bits::bits_at(self.bytes, m, self.bit);
+        self.bit += m;
+        value
+    }
 
-// Fills `out` with the next elements of m bits, and answers the reader past them.
-pub fn fill<'a, 'b>(r: Reader<'a>, m: usize, out: &'b mut [u16]) -> Reader<'a>
-    requires { (m ≤ 16) × (r.bit + m * length out.old ≤ 8 * length r.bytes.now) × (r.bit + m * length out.old < 2 ^ 64) }
-    ensures { (result ≡ past r.entry (m * length out.old)) × (out.new ≡ elements_at (length out.old) m r.entry.bytes.now r.entry.bit) }
-{
-    let bit = fill_at(r.bytes, m, r.bit, out);
-    Reader {
-        bytes: r.bytes,
-        bit,
+    // Fills `out` with the next elements of m bits.
+    pub fn fill(&mut self, m: usize, out: &mut [u16])
+        requires narrow { m ≤ 16 }
+        requires inside { self.old.bit + m * length out.old ≤ 8 * length self.old.bytes.now }
+        requires near { self.old.bit + m * length out.old < 2 ^ 64 }
+        ensures elements { out.new ≡ elements_at (length out.old) m self.old.bytes.now self.old.bit }
+        ensures rest { self.new ≡ past self.old (m * length out.old) }
+    {
+        bits::unpack_at(self.bytes, m, self.bit, out);
+        self.bit += m * out.len();
     }
 }
 
 // The element of m bits at a bit place.
 pub fn element(bytes: &[u8], m: usize, bit: usize) -> u16
-    requires { (m ≤ 16) × (bit + m < 2 ^ 64) }
-    ensures { (result ≡ bits_at m bytes.now bit) × (result < 2 ^ m) }
+    requires narrow { m ≤ 16 }
+    requires near { bit + m < 2 ^ 64 }
+    ensures value { result ≡ bits_at m bytes.now bit }
+    ensures small { result < 2 ^ m }
 {
-    next(at(bytes, bit), m).value
+    Reader::at(bytes, bit).next(m)
 }
 
 // Elements from a bit place on, as many as `out` takes; answers the place after them.
 pub fn elements(bytes: &[u8], m: usize, bit: usize, out: &mut [u16]) -> usize
-    requires { (m ≤ 16) × (bit + m * length out.old ≤ 8 * length bytes.now) × (bit + m * length out.old < 2 ^ 64) }
-    ensures { (result ≡ bit + m * length out.old) × (out.new ≡ elements_at (length out.old) m bytes.now bit) }
+    requires narrow { m ≤ 16 }
+    requires inside { bit + m * length out.old ≤ 8 * length bytes.now }
+    requires near { bit + m * length out.old < 2 ^ 64 }
+    ensures place { result ≡ bit + m * length out.old }
+    ensures elements { out.new ≡ elements_at (length out.old) m bytes.now bit }
 {
-    fill(at(bytes, bit), m, out).bit
+    let mut reader = Reader::at(bytes, bit);
+    reader.fill(m, out);
+    reader.bit
 }
