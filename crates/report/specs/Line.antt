@@ -1,25 +1,31 @@
 -- The rule of the program `sizes`: a line names a set if it is exactly two lower-case hex digits of a known set byte.
-use Rattle.std.specs.Prelude.{◌≡◌, List, ℕ, ◌+◌, ◌-◌, ◌*◌, min, eqb, leb, ltb, length, get_or, Option, None}
-use Rattle.lists.specs.Loops.{pick}
+use Rattle.std.specs.Prelude.{◌≡◌, List, [], ◌∷◌, ℕ, ◌+◌, ◌-◌, ◌*◌, ◌<◌, nat_le, if◌then◌else◌, length, Option, Some, None}
 use Rattle.sets.specs.declared.Set.{Set}
 use Rattle.sets.specs.Table.{set_of}
 use Rattle.report.specs.declared.Line.{Line}
+use Rattle.report.specs.declared.Line.TheVariants.{Empty, One, Two, Long}
 
--- the value of a lower-case hex digit, `0` to `9` or `a` to `f`; 16 for any other byte
-unfoldable pub hex_digit : ℕ → ℕ
+-- the value of a lower-case hex digit, `0` to `9` or `a` to `f`
+abbrev pub hex_digit : ℕ → Option ℕ
 hex_digit c =
-    pick (leb 48 c) (pick (leb c 57) (c - 48) (pick (leb 97 c) (pick (leb c 102) (c - 87) 16) 16)) 16
+    if nat_le 48 c then (if nat_le c 57 then Some (c - 48) else (if nat_le 97 c then (if nat_le c 102 then Some (c - 87) else None) else None)) else None
 
 -- the set whose byte has the digits a and b
-unfoldable pub set_of_digits : ℕ → ℕ → Option Set
-set_of_digits a b = pick (ltb a 16) (pick (ltb b 16) (set_of (16 * a + b)) None) None
+abbrev pub set_of_digits : Option ℕ → Option ℕ → Option Set
+set_of_digits None b = None
+set_of_digits (Some a) None = None
+set_of_digits (Some a) (Some b) = set_of (16 * a + b)
 
 -- the set that a line names
-unfoldable pub set_of_line : List ℕ → Option Set
-set_of_line l = pick (eqb (length l) 2) (set_of_digits (hex_digit (get_or l 0 0)) (hex_digit (get_or l 1 0))) None
+abbrev pub set_of_line : List ℕ → Option Set
+set_of_line [] = None
+set_of_line (a ∷ []) = None
+set_of_line (a ∷ b ∷ []) = set_of_digits (hex_digit a) (hex_digit b)
+set_of_line (a ∷ b ∷ c ∷ l) = None
 
--- what the program keeps of the line l: its first two bytes, and how many it has, counted to three
-pub record Keeps (k : Line) (l : List ℕ) : Type 0 where
-  pub count : k.count ≡ min (length l) 3
-  pub first : k.first ≡ get_or l 0 0
-  pub second : k.second ≡ get_or l 1 0
+-- what the program keeps of the line l: all of it up to two bytes, and of a longer one that it is longer
+abbrev pub Keeps : Line → List ℕ → Type 0
+Keeps Empty l = l ≡ []
+Keeps (One a) l = l ≡ a ∷ []
+Keeps (Two a b) l = l ≡ a ∷ b ∷ []
+Keeps Long l = 2 < length l
