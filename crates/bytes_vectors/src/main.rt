@@ -4,7 +4,7 @@
 // holds the kind, the answer's number and the output; of an output of more than a hundred entries, its `mix`.
 #![tactic(auto)]
 
-ghost use Rattle.std.specs.Prelude.{◌≡◌, ◌+◌, ◌<◌, ◌≤◌, ◌^◌, ◌/◌, length};
+ghost use Rattle.std.specs.Prelude.{◌≡◌, ◌/◌, length};
 
 use lists::Refused;
 
@@ -14,14 +14,49 @@ const STDIN: i32 = 0;
 // The number of standard output.
 const STDOUT: i32 = 1;
 
+// How long the input of a case may be, and its output.
+const INPUT: usize = 65536;
+
+const OUTPUT: usize = 65538;
+
+// What a case does with its input.
+#[derive(Clone, Copy)]
+enum Kind {
+    Unpack = 0,
+    Pack = 1,
+    Shuffle = 2,
+    Invert = 3,
+    ShuffleAndInvert = 4,
+}
+
+impl From<u8> for Kind {
+    fn from(number: u8) -> Kind {
+        match number {
+            0 => Kind::Unpack,
+            1 => Kind::Pack,
+            2 => Kind::Shuffle,
+            4 => Kind::ShuffleAndInvert,
+            _ => Kind::Invert,
+        }
+    }
+}
+
+#[derive(Clone, Copy)]
+struct Case {
+    kind: Kind,
+    m: usize,
+    input: usize,
+    output: usize,
+}
+
 fn word(n: u64) {
     io::write_all(STDOUT, b" ");
     io::print_decimal(STDOUT, n);
 }
 
-fn start(kind: u8, a: Result<(), Refused>) {
+fn start(kind: Kind, answer: Result<(), Refused>) {
     io::print_decimal(STDOUT, kind as u64);
-    word(u64::from(lists::number(a)));
+    word(u64::from(lists::number(answer)));
     io::write_all(STDOUT, b":");
 }
 
@@ -29,48 +64,33 @@ fn end() {
     io::write_all(STDOUT, b"\n");
 }
 
-fn entry(s: &[u16], i: usize) -> u64
-    requires { i < length s.now }
-    ensures { result < 2 ^ 16 }
-{
-    s[i] as u64
-}
-
 // The entries as one number in base 31, its last 32 bits.
-fn mix(s: &[u16]) -> u64 {
-    let mut t: u64 = 0;
-    let mut i = 0;
-    while i < s.len() {
-        t = (t * 31 + entry(s, i)) % 4294967296;
-        i += 1;
-    }
-    t
+fn mix(s: &[u16]) -> u32 {
+    s.iter().fold(
+        0u32,
+        |sum, &x| sum.wrapping_mul(31).wrapping_add(u32::from(x)),
+    )
 }
 
 fn show_numbers(s: &[u16]) {
     if 100 < s.len() {
-        word(mix(s));
+        word(u64::from(mix(s)));
         return;
     }
-    let mut i = 0;
-    while i < s.len() {
-        word(entry(s, i));
-        i += 1;
+    for &x in s {
+        word(u64::from(x));
     }
 }
 
 fn show_bytes(s: &[u8]) {
-    let mut i = 0;
-    while i < s.len() {
-        word(s[i] as u64);
-        i += 1;
+    for &x in s {
+        word(u64::from(x));
     }
 }
 
 fn unpack_case(m: usize, input: &[u8], out: &mut [u16]) {
-    lists::wipe_numbers(out);
-    let a = bits::unpack_call(m, input, out);
-    start(0, a);
+    out.fill(0);
+    start(Kind::Unpack, bits::unpack_call(m, input, out));
     show_numbers(out);
     end();
 }
@@ -79,155 +99,101 @@ fn pack_case(m: usize, input: &[u8], list: &mut [u16], out: &mut [u8])
     requires { length list.old ≡ length input.now / 2 }
 {
     bits::get_numbers(input, list);
-    lists::wipe_bytes(out);
-    let a = bits::pack_call(m, list, out);
-    start(1, a);
+    out.fill(0);
+    start(Kind::Pack, bits::pack_call(m, list, out));
     show_bytes(out);
     end();
 }
 
 fn shuffle_case(input: &[u8], list: &mut [u16]) {
-    lists::wipe_numbers(list);
-    let a = perm::shuffle_call(input, list);
-    start(2, a);
+    list.fill(0);
+    start(Kind::Shuffle, perm::shuffle_call(input, list));
     show_numbers(list);
     end();
 }
 
-fn invert_case(list: &[u16], out: &mut [u16]) {
-    lists::wipe_numbers(out);
-    let a = perm::invert_call(list, out);
-    start(3, a);
+fn invert_case(input: &[u8], list: &mut [u16], out: &mut [u16])
+    requires { length list.old ≡ length input.now / 2 }
+{
+    bits::get_numbers(input, list);
+    out.fill(0);
+    start(Kind::Invert, perm::invert_call(list, out));
     show_numbers(out);
     end();
 }
 
 fn both_case(input: &[u8], list: &mut [u16], out: &mut [u16]) {
-    lists::wipe_numbers(list);
+    list.fill(0);
     let _shuffled = perm::shuffle_call(input, list);
-    lists::wipe_numbers(out);
-    let a = perm::invert_call(list, out);
-    start(4, a);
+    out.fill(0);
+    start(Kind::ShuffleAndInvert, perm::invert_call(list, out));
     show_numbers(out);
     end();
 }
 
-// One case; one whose input is no list of numbers where it has to be, or of a kind that there is none of, is passed over.
-fn run(kind: u8, m: usize, input: &[u8], list: &mut [u16], out: &mut [u16], bytes: &mut [u8]) {
-    if kind == 0 {
-        unpack_case(m, input, out);
-        return;
-    }
-    if kind == 2 {
-        shuffle_case(input, out);
-        return;
-    }
-    if kind == 4 {
-        both_case(input, list, out);
-        return;
-    }
-    if list.len() != input.len() / 2 {
-        return;
-    }
-    if kind == 1 {
-        pack_case(m, input, list, bytes);
-        return;
-    }
-    bits::get_numbers(input, list);
-    invert_case(list, out);
-}
-
-fn wide(x: u8) -> usize
-    ensures { result < 256 }
-{
-    x as usize
-}
-
 // The number of three bytes.
 fn three(a: u8, b: u8, c: u8) -> usize {
-    (wide(a) * 256 + wide(b)) * 256 + wide(c)
+    u32::from_be_bytes([0, a, b, c]) as usize
 }
 
-// How long the list between input and output is.
-fn between(kind: u8, a: usize, b: usize) -> usize
-    requires { (a < 65537) × (b < 65539) }
-    ensures { result < 65539 }
-{
-    if kind == 4 { b } else { a / 2 }
+// The head of the next case, if there is one.
+fn next_case() -> Option<Case> {
+    let mut head = [0u8; 8];
+    if io::read_full(STDIN, &mut head) < head.len() {
+        return None;
+    }
+    let [kind, m, a, b, c, d, e, f] = head;
+    Some(Case {
+        kind: Kind::from(kind),
+        m: usize::from(m),
+        input: three(a, b, c),
+        output: three(d, e, f),
+    })
 }
 
-fn numbers() -> [u16; 65538]
-    ensures { 65538 ≡ length result }
-{
-    [0; 65538]
-}
-
-fn bytes() -> [u8; 65538]
-    ensures { 65538 ≡ length result }
-{
-    [0; 65538]
-}
-
-// Reads the input of a case and runs it; false where the input is too long or ends before.
-fn case(
-    kind: u8,
-    m: usize,
-    a: usize,
-    b: usize,
-    input: &mut [u8],
-    list: &mut [u16],
-    out: &mut [u16],
-    bytes: &mut [u8],
-) -> bool
-    requires { (65536 ≤ length input.old) × (65538 ≤ length list.old) × (65538 ≤ length out.old) × (65538 ≤ length bytes.old) }
-{
-    if 65536 < a {
+// Reads the input of a case and runs it; false where a length is too large or the input ends before.
+fn run(
+    case: Case,
+    input: &mut [u8; INPUT],
+    list: &mut [u16; OUTPUT],
+    out: &mut [u16; OUTPUT],
+    bytes: &mut [u8; OUTPUT],
+) -> bool {
+    if INPUT < case.input || OUTPUT < case.output {
         return false;
     }
-    if 65538 < b {
+    let input = &mut input[..case.input];
+    if io::read_full(STDIN, input) < case.input {
         return false;
     }
-    if io::read_full(STDIN, &mut input[..a]) < a {
-        return false;
+    let numbers = case.input / 2;
+    let out = &mut out[..case.output];
+    match case.kind {
+        Kind::Unpack => unpack_case(case.m, input, out),
+        Kind::Pack => pack_case(
+            case.m,
+            input,
+            &mut list[..numbers],
+            &mut bytes[..case.output],
+        ),
+        Kind::Shuffle => shuffle_case(input, out),
+        Kind::Invert => invert_case(input, &mut list[..numbers], out),
+        Kind::ShuffleAndInvert => both_case(input, &mut list[..case.output], out),
     }
-    let h = between(kind, a, b);
-    run(
-        kind,
-        m,
-        &input[..a],
-        &mut list[..h],
-        &mut out[..b],
-        &mut bytes[..b],
-    );
     true
 }
 
 fn main() {
-    let mut head = [0u8; 8];
-    let mut input = io::large_buffer();
-    let mut list = numbers();
-    let mut out = numbers();
-    let mut out_bytes = bytes();
-    let mut i: usize = 0;
-    while i < 1000000 {
-        if io::read_full(STDIN, &mut head) < 8 {
+    let mut input = [0u8; INPUT];
+    let mut list = [0u16; OUTPUT];
+    let mut out = [0u16; OUTPUT];
+    let mut bytes = [0u8; OUTPUT];
+    for _ in 0..1000000 {
+        let Some(case) = next_case() else {
+            break;
+        };
+        if !run(case, &mut input, &mut list, &mut out, &mut bytes) {
             break;
         }
-        let m = wide(head[1]);
-        let a = three(head[2], head[3], head[4]);
-        let b = three(head[5], head[6], head[7]);
-        if !case(
-            head[0],
-            m,
-            a,
-            b,
-            &mut input,
-            &mut list,
-            &mut out,
-            &mut out_bytes,
-        ) {
-            break;
-        }
-        i += 1;
     }
 }

@@ -29,27 +29,18 @@ fn place(x: u32, n: usize) -> usize
     (x as usize) % n
 }
 
-fn wide(x: u16) -> u64 {
-    x as u64
-}
-
-fn wider(x: usize) -> u64 {
-    x as u64
-}
-
 // A code word comes to the front of the area: the sum of multiples of the generator's shifts.
 fn code_word(area: &mut [u16], n: usize, s: usize, seed: u32) -> u32
-    requires { (n + (s + 1) ≤ length area.old) × (s < n) }
+    requires room { n + (s + 1) ≤ length area.old }
+    requires short { s < n }
 {
-    lists::wipe_numbers(area);
+    area.fill(0);
     let end = n + (s + 1);
     code::generator(&mut area[n..end]);
     let mut x = seed;
-    let mut i = 0;
-    while i < n - s {
+    for i in 0..n - s {
         x = next(x);
         gf::add_run(area, i, n, s + 1, element(x));
-        i += 1;
     }
     x
 }
@@ -58,42 +49,40 @@ fn code_word(area: &mut [u16], n: usize, s: usize, seed: u32) -> u32
 fn strike(area: &mut [u16], p: usize, v: u16)
     requires { p < length area.old }
 {
-    area[p] = area[p] ^ v;
+    area[p] ^= v;
 }
 
 // Strikes e places of the n at the front, the same one twice perhaps.
 fn spoil(area: &mut [u16], n: usize, e: usize, seed: u32)
-    requires { (0 < n) × (n ≤ length area.old) }
+    requires some { 0 < n }
+    requires room { n ≤ length area.old }
 {
     let mut x = seed;
-    let mut k = 0;
-    while k < e {
+    for _ in 0..e {
         x = next(x);
         let p = place(x, n);
         x = next(x);
         strike(area, p, element(x));
-        k += 1;
     }
 }
 
 // The numbers of a word, a blank before each.
 fn print_word(word: &[u16]) {
-    let mut i = 0;
-    while i < word.len() {
+    for &x in word {
         io::write_all(STDOUT, b" ");
-        io::print_decimal(STDOUT, wide(word[i]));
-        i += 1;
+        io::print_decimal(STDOUT, u64::from(x));
     }
 }
 
 fn print_number(x: usize) {
-    io::print_decimal(STDOUT, wider(x));
+    io::print_decimal(STDOUT, x as u64);
     io::write_all(STDOUT, b" ");
 }
 
 // One case: a code word, e places struck, decoded and printed.
 fn case(area: &mut [u16], work: &mut [u16], n: usize, t: usize, e: usize)
-    requires { (n + (t + t + 1) ≤ length area.old) × (t + t < n) }
+    requires room { n + (t + t + 1) ≤ length area.old }
+    requires short { t + t < n }
 {
     let x = code_word(area, n, t + t, 4660);
     spoil(area, n, e, x);
@@ -112,12 +101,11 @@ fn case(area: &mut [u16], work: &mut [u16], n: usize, t: usize, e: usize)
 
 // All cases of a code: from no place struck to `most`.
 fn cases(area: &mut [u16], work: &mut [u16], n: usize, t: usize, most: usize)
-    requires { (n + (t + t + 1) ≤ length area.old) × (t + t < n) }
+    requires room { n + (t + t + 1) ≤ length area.old }
+    requires short { t + t < n }
 {
-    let mut e = 0;
-    while e < most {
+    for e in 0..most {
         case(area, work, n, t, e);
-        e += 1;
     }
 }
 

@@ -12,31 +12,27 @@ fn word(n: u64) {
     io::print_decimal(STDOUT, n);
 }
 
-fn wide(x: u16) -> u64 {
-    x as u64
-}
-
 fn show(s: &[u16]) {
-    let mut i = 0;
-    while i < s.len() {
-        word(wide(s[i]));
-        i += 1;
+    for &x in s {
+        word(u64::from(x));
     }
 }
 
 fn one_by_one(bytes: &[u8], m: usize)
-    requires { (0 < m) × (m ≤ 16) × (length bytes.now < 2 ^ 32) }
+    requires some { 0 < m }
+    requires narrow { m ≤ 16 }
+    requires short { length bytes.now < 2 ^ 32 }
 {
-    let mut bit = 0;
-    while bit < 8 * bytes.len() {
-        word(wide(reader::element(bytes, m, bit)));
-        bit += m;
+    for bit in (0..8 * bytes.len()).step_by(m) {
+        word(u64::from(reader::element(bytes, m, bit)));
     }
     io::write_all(STDOUT, b"\n");
 }
 
 fn at_once(bytes: &[u8], m: usize, out: &mut [u16])
-    requires { (m ≤ 16) × (3 + m * length out.old ≤ 8 * length bytes.now) × (length bytes.now < 2 ^ 32) }
+    requires narrow { m ≤ 16 }
+    requires inside { 3 + m * length out.old ≤ 8 * length bytes.now }
+    requires short { length bytes.now < 2 ^ 32 }
 {
     let end = reader::elements(bytes, m, 3, out);
     show(out);
@@ -46,7 +42,10 @@ fn at_once(bytes: &[u8], m: usize, out: &mut [u16])
 }
 
 fn both(bytes: &[u8], m: usize)
-    requires { (0 < m) × (m ≤ 16) × (20 ≤ length bytes.now) × (length bytes.now < 2 ^ 32) }
+    requires some { 0 < m }
+    requires narrow { m ≤ 16 }
+    requires long { 20 ≤ length bytes.now }
+    requires short { length bytes.now < 2 ^ 32 }
 {
     let mut out = [0u16; 9];
     one_by_one(bytes, m);
@@ -57,9 +56,7 @@ fn main() {
     let bytes = [
         255u8, 192, 1, 0, 64, 32, 90, 165, 60, 195, 17, 34, 68, 136, 1, 128, 254, 127, 99, 7,
     ];
-    let mut m = 1;
-    while m < 17 {
+    for m in 1..=16 {
         both(&bytes, m);
-        m += 1;
     }
 }

@@ -4,16 +4,10 @@
 // The number of standard output.
 const STDOUT: i32 = 1;
 
-fn wide(x: u8) -> u64 {
-    x as u64
-}
-
 // Byte i becomes i mod 251.
 pub fn pattern(s: &mut [u8]) {
-    let mut i: usize = 0;
-    while i < s.len() {
-        s[i] = (i % 251) as u8;
-        i += 1;
+    for (i, x) in s.iter_mut().enumerate() {
+        *x = (i % 251) as u8;
     }
 }
 
@@ -29,10 +23,8 @@ pub fn number(n: usize) {
 
 // Two hexadecimal digits a byte.
 pub fn hex(s: &[u8]) {
-    let mut i: usize = 0;
-    while i < s.len() {
-        io::print_hex(STDOUT, wide(s[i]), 2);
-        i += 1;
+    for &b in s {
+        io::print_hex(STDOUT, u64::from(b), 2);
     }
 }
 
