@@ -1,8 +1,8 @@
 // The calls for users: any slices, and an answer.
 ghost use Rattle.hash.specs.Answers.{Digested, Masked};
 
-use crate::hasher::{Hasher, digest};
-use crate::mask::fill_mask;
+use crate::hasher::digest;
+use crate::mask::fill_mask_of;
 use lists::Refused;
 
 // The digest of `message` into `out`. Refused, with nothing written: `out` is not 64 bytes long.
@@ -23,8 +23,6 @@ pub fn mask(seed: &[u8], out: &mut [u8]) -> Result<(), Refused>
     if seed.len() > 65536 || out.len() > 65536 {
         return Err(Refused);
     }
-    let mut hasher = Hasher::new();
-    hasher.update(seed);
-    fill_mask(&hasher, out);
+    fill_mask_of(&[seed], out);
     Ok(())
 }

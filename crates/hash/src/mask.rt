@@ -70,3 +70,12 @@ pub fn xor_mask_of(seed: &[&[u8]], s: &mut [u8])
     }
     xor_mask(&hasher, s);
 }
+
+// The mask of the seed that the parts are, one after the other, into s.
+pub fn fill_mask_of(seed: &[&[u8]], s: &mut [u8])
+    requires { length (concat (map (λ part. part.now) seed.now)) < 2 ^ 63 }
+    ensures { s.new ≡ mgf (concat (map (λ part. part.now) seed.now)) (length s.old) }
+{
+    s.fill(0);
+    xor_mask_of(seed, s);
+}

@@ -1,52 +1,34 @@
 -- What the code's steps leave is what the definitions say, and unpadding has one answer.
 use mathlib.Core.Path.{◌≡◌, refl, sym, ap, ap₂, ◌∙◌}
-use mathlib.Core.List.{List, ◌++◌, append_assoc}
+use mathlib.Core.List.{List, [], ◌++◌, append-nil}
 use Prim.Native.Nat.{ℕ, ◌+◌, ◌-◌, ◌<◌}
-use native.Mathlib.Nat.{add-sub_cancel_left, sub-zero}
 use native.Mathlib.Omega.{arith}
 use lib.ListN.{length, take, drop, replicate, length-append, length-drop, length-replicate, take-append-drop}
-use lib.Seq.{take_at, drop_at}
-use Rattle.lists.specs.Parts.{part}
 use Rattle.sets.specs.declared.Set.{Set}
 use Rattle.hash.specs.Mask.{mgf, xored}
 use Rattle.hash.proofs.Laws.{length-mgf, length-xored}
-use Rattle.hash.proofs.Masks.{over_zeros}
 use Rattle.scheme.specs.Padding.{lost_bits, cleared, padded_front, padded, seed_of, unmasked, message_of, Checks}
-use Rattle.padding.specs.declared.Unpadded.{Unpadded}
-use Rattle.padding.specs.declared.Unpadded.TheVariants.{Message, Wrong}
-use Rattle.padding.specs.Steps.{check_masked, front_masked, seed_masked, covered, stripped, gather}
+use Rattle.std.specs.Prelude.{Result, Ok, Err, fold}
+use lib.Bits.{bit_or}
+use Rattle.padding.specs.declared.WrongCheck.{WrongCheck}
+use Rattle.padding.specs.Steps.{check_masked, front_masked, seed_masked, stripped}
 use Rattle.padding.specs.Unpads.{Unpads}
 use Rattle.padding.proofs.Xored.{xored-zeros, xored-self}
-use Rattle.padding.proofs.Cleared.{length-cleared, cleared-after}
+use Rattle.padding.proofs.Cleared.{cleared-after}
 use Rattle.padding.proofs.Steps.{seed-of, front_of, check-of}
 use Rattle.padding.proofs.Gather.{gather-only, gather_none}
-use Rattle.padding.proofs.Sizes.{length-padded_front, front_length, rest-length, length-unmasked, length-message_of}
+use Rattle.padding.proofs.Sizes.{front_length, rest-length, length-unmasked, length-message_of}
 
--- ---- padding is its steps
-pub covered-is : (s : Set) (msg seed e0 x : List ℕ) {y : List ℕ} (ν n : ℕ) → 0 < s.k3 → length msg ≡ s.k1 → length seed ≡ s.k3
-    → n ≡ s.k1 + s.k2 + s.k3 → ν ≡ lost_bits s
-    → x ≡ (msg ++ replicate (n - (length msg + length seed)) 0) ++ seed
-    → y ≡ covered s.k1 s.k2 ν e0 x
-    → y ≡ padded s msg seed e0
-unfolding covered padded padded_front
-covered-is s msg seed e0 x {y} ν n some l k h lost e d =
-    let r = cleared (lost_bits s) seed in
-    let f = s.k1 + s.k2 in
-    let check = mgf (msg ++ (r ++ e0)) s.k2 in
-    let front = padded_front s msg r e0 in
-    let z : n - (length msg + length seed) ≡ s.k2 = omega arith in
-    let some₂ : 0 < length seed = omega arith in
-    let e₁ : cleared ν x ≡ (msg ++ replicate s.k2 0) ++ r =
-    ap₂ cleared lost (e ∙ ap (λ (i : ℕ). (msg ++ replicate i 0) ++ seed) z) ∙ cleared-after (lost_bits s) (msg ++ replicate s.k2 0) seed some₂ in
-    let e₂ : check_masked s.k1 s.k2 e0 (cleared ν x) ≡ (msg ++ check) ++ r =
-    ap (check_masked s.k1 s.k2 e0) e₁
-    ∙ check-of s.k1 s.k2 e0 msg (replicate s.k2 0) r l (length-replicate s.k2 0)
-    ∙ ap (λ (c : List ℕ). (msg ++ c) ++ r) (over_zeros check s.k2 (length-mgf (msg ++ (r ++ e0)) s.k2)) in
-    let e₃ : front_masked f e0 (check_masked s.k1 s.k2 e0 (cleared ν x)) ≡ front ++ r =
-    ap (front_masked f e0) e₂
-    ∙ front_of f e0 (msg ++ check) r (length-append msg check ∙ ap₂ ◌+◌ l (length-mgf (msg ++ (r ++ e0)) s.k2)) in
-    d ∙ ap (seed_masked f) e₃ ∙ seed-of f front r (length-padded_front s msg r e0 l)
-    ∙ ap (λ (i : ℕ). front ++ xored r (mgf front i)) (length-cleared (lost_bits s) seed ∙ k)
+-- ---- padding, part by part: the numbers are the lengths that the code finds
+pub padded_parts : (s : Set) (msg seed e0 : List ℕ) {m b r check front last : List ℕ} {ν k₂ f k₃ : ℕ}
+    → m ≡ msg → b ≡ seed → ν ≡ lost_bits s → r ≡ cleared ν b
+    → check ≡ mgf (m ++ (r ++ (e0 ++ []))) k₂ → k₂ ≡ s.k2
+    → front ≡ xored (m ++ check) (mgf (r ++ (e0 ++ [])) f) → f ≡ s.k1 + s.k2
+    → last ≡ xored r (mgf (front ++ []) k₃) → k₃ ≡ s.k3
+    → front ++ last ≡ padded s msg seed e0
+unfolding padded padded_front
+padded_parts s msg seed e0 {m} {b} {r} {check} {front} {last} {ν} {k₂} {f} {k₃} mp bp νp rp cp k₂p fp fl lp k₃p =
+    cc (append-nil e0, append-nil front)
 
 -- ---- unpadding is its steps
 abbrev stripped_of : Set → List ℕ → List ℕ → List ℕ
@@ -83,47 +65,53 @@ module _ (s : Set) (p e0 : List ℕ) (l : length p ≡ s.k1 + s.k2 + s.k3) (some
       ap (check_masked s.k1 s.k2 e0) (e₃ ∙ ap (λ (u : List ℕ). u ++ σ) (sym whole))
       ∙ check-of s.k1 s.k2 e0 (message_of s p e0) (drop s.k1 (unmasked s p e0)) σ (length-message_of s p l e0) check-length
 
-  stripped-check : part s.k1 (s.k1 + s.k2 - s.k1) (stripped_of s p e0) ≡ xored (drop s.k1 (unmasked s p e0)) (check_of s p e0)
-  stripped-check =
-      let m = message_of s p e0 in
-      let c = xored (drop s.k1 (unmasked s p e0)) (check_of s p e0) in
-      let n : length c ≡ s.k2 = length-xored (drop s.k1 (unmasked s p e0)) (check_of s p e0) ∙ check-length in
-      ap₂ (λ (i : ℕ) (x : List ℕ). take i (drop s.k1 x)) (add-sub_cancel_left s.k1 s.k2) (stripped-is ∙ append_assoc m c (seed_of s p))
-      ∙ ap (take s.k2) (drop_at m (c ++ seed_of s p) s.k1 (length-message_of s p l e0))
-      ∙ take_at c (seed_of s p) s.k2 n
+  -- the same, part by part: the numbers are the lengths that the code finds
+  module _ {a b x σ u m d c : List ℕ} {ν k₃ f k₂ : ℕ}
+      (a-is : a ≡ take (s.k1 + s.k2) p) (b-is : b ≡ drop (s.k1 + s.k2) p)
+      (xp : x ≡ xored b (mgf (a ++ []) k₃)) (k₃p : k₃ ≡ s.k3)
+      (νp : ν ≡ lost_bits s) (σp : σ ≡ cleared ν x)
+      (up : u ≡ xored a (mgf (σ ++ (e0 ++ [])) f)) (fp : f ≡ s.k1 + s.k2)
+      (mp : m ≡ take s.k1 u) (dp : d ≡ drop s.k1 u)
+      (cp : c ≡ xored d (mgf (m ++ (σ ++ (e0 ++ []))) k₂)) (k₂p : k₂ ≡ s.k2) where
+    seed-part : σ ≡ seed_of s p
+    unfolding seed_of
+    seed-part = cc (append-nil a)
 
-  module _ {x : List ℕ} (e : x ≡ stripped_of s p e0) where
+    front-part : u ≡ unmasked s p e0
+    unfolding unmasked
+    front-part = cc (seed-part, append-nil e0)
+
+    pub message-part : m ≡ message_of s p e0
+    unfolding message_of
+    message-part = mp ∙ ap (take s.k1) front-part
+
+    check-part : c ≡ xored (drop s.k1 (unmasked s p e0)) (check_of s p e0)
+    check-part = cc (seed-part, front-part, message-part, append-nil e0)
+
+    pub stripped_parts : (m ++ c) ++ σ ≡ stripped_of s p e0
+    stripped_parts = cc (seed-part, message-part, check-part, stripped-is)
+
     -- the check bytes' differences are all zero where they are right, and only there
-    pub checks-right : gather (part s.k1 (s.k1 + s.k2 - s.k1) x) ≡ 0 → Checks s p e0
+    pub checks-right : fold bit_or 0 c ≡ 0 → Checks s p e0
     unfolding Checks
     checks-right z =
-        let u = drop s.k1 (unmasked s p e0) in
-        let c = check_of s p e0 in
-        let q : gather (xored u c) ≡ 0 = ap gather (sym (ap (part s.k1 (s.k1 + s.k2 - s.k1)) e ∙ stripped-check)) ∙ z in
-        let n : length (xored u c) ≡ length u = length-xored u c in
-        xored-zeros u c (length-mgf (message_of s p e0 ++ (seed_of s p ++ e0)) s.k2 ∙ sym check-length)
-        (gather-only (xored u c) q ∙ ap (λ (i : ℕ). replicate i 0) n)
+        let w = drop s.k1 (unmasked s p e0) in
+        let v = check_of s p e0 in
+        let q : fold bit_or 0 (xored w v) ≡ 0 = ap (fold bit_or 0) (sym check-part) ∙ z in
+        xored-zeros w v (length-mgf (message_of s p e0 ++ (seed_of s p ++ e0)) s.k2 ∙ sym check-length)
+        (gather-only (xored w v) q ∙ ap (λ (i : ℕ). replicate i 0) (length-xored w v))
 
-    pub checks-wrong : (gather (part s.k1 (s.k1 + s.k2 - s.k1) x) ≡ 0 → ⊥) → Checks s p e0 → ⊥
+    pub checks-wrong : (fold bit_or 0 c ≡ 0 → ⊥) → Checks s p e0 → ⊥
     unfolding Checks
     checks-wrong z q =
-        let u = drop s.k1 (unmasked s p e0) in
-        let c = check_of s p e0 in
-        let n : length (xored u u) ≡ length u = length-xored u u in
-        z (ap gather (ap (part s.k1 (s.k1 + s.k2 - s.k1)) e ∙ stripped-check ∙ ap (xored u) (sym q))
-        ∙ gather_none (xored u u) (xored-self u ∙ ap (λ (i : ℕ). replicate i 0) (sym n)))
-
-    -- the first k1 bytes
-    pub message-copied : {y : List ℕ} → y ≡ take (s.k1 - 0) x → y ≡ message_of s p e0
-    message-copied q =
-        let m = message_of s p e0 in
-        let c = xored (drop s.k1 (unmasked s p e0)) (check_of s p e0) in
-        q ∙ ap₂ take (sub-zero s.k1) (e ∙ stripped-is ∙ append_assoc m c (seed_of s p)) ∙ take_at m (c ++ seed_of s p) s.k1 (length-message_of s p l e0)
+        let w = drop s.k1 (unmasked s p e0) in
+        z (ap (fold bit_or 0) (check-part ∙ ap (xored w) (sym q))
+        ∙ gather_none (xored w w) (xored-self w ∙ ap (λ (i : ℕ). replicate i 0) (sym (length-xored w w))))
 
 -- ---- no two answers to one padded string
-pub unpads-once : (s : Set) (p e0 before : List ℕ) (a b : Unpadded) (x y : List ℕ)
+pub unpads-once : (s : Set) (p e0 before : List ℕ) (a b : Result (Unit {0}) WrongCheck) (x y : List ℕ)
     → Unpads s p e0 before a x → Unpads s p e0 before b y → (a ≡ b) × (x ≡ y)
-unpads-once s p e0 before Message Message x y u w = (refl, u.1 ∙ sym w.1)
-unpads-once s p e0 before Message Wrong x y u w = absurd (w.0 u.0)
-unpads-once s p e0 before Wrong Message x y u w = absurd (u.0 w.0)
-unpads-once s p e0 before Wrong Wrong x y u w = (refl, u.1 ∙ sym w.1)
+unpads-once s p e0 before (Ok _) (Ok _) x y u w = (refl, u.1 ∙ sym w.1)
+unpads-once s p e0 before (Ok _) (Err _) x y u w = absurd (w.0 u.0)
+unpads-once s p e0 before (Err _) (Ok _) x y u w = absurd (u.0 w.0)
+unpads-once s p e0 before (Err _) (Err _) x y u w = (refl, u.1 ∙ sym w.1)

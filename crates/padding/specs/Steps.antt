@@ -1,36 +1,23 @@
--- 001, 7.13, in place: a string of k1 message bytes, k2 check bytes and the pad seed. Each step lays a mask over one of its
+-- RLCE-KEM specification of September 14, 2017, section 7.13, in place: a string of k1 message bytes, k2 check bytes and the pad seed. Each step lays a mask over one of its
 -- parts and leaves the rest, so that the same step again takes the mask off.
-use Rattle.std.specs.Prelude.{List, ◌++◌, ℕ, ◌+◌, ◌-◌, length, get_or, take, drop}
-use Rattle.std.specs.Int.Bits.{bit_or}
-use Rattle.lists.specs.Loops.{turns}
+use Rattle.std.specs.Prelude.{List, ◌++◌, ℕ, ◌+◌, ◌-◌, length, take, drop}
 use Rattle.lists.specs.Parts.{part, put}
 use Rattle.hash.specs.Mask.{mgf, xored}
 use Rattle.scheme.specs.Padding.{cleared}
 
--- 6, decode 13: the mask of message, pad seed and e0 over the check bytes
+-- step 6, decoding step 13: the mask of message, pad seed and e0 over the check bytes
 unfoldable pub check_masked : ℕ → ℕ → List ℕ → List ℕ → List ℕ
 check_masked k1 k2 e0 p =
     put k1 k2 (xored (part k1 k2 p) (mgf (take k1 p ++ (drop (k1 + k2) p ++ e0)) k2)) p
 
--- 7 and 8, decode 9 and 10: the mask of pad seed and e0 over message and check bytes
+-- steps 7 and 8, decoding steps 9 and 10: the mask of pad seed and e0 over message and check bytes
 unfoldable pub front_masked : ℕ → List ℕ → List ℕ → List ℕ
 front_masked front e0 p = xored (take front p) (mgf (drop front p ++ e0) front) ++ drop front p
 
--- 9 and 10, decode 4 to 6: the mask of message and check bytes over the pad seed
+-- steps 9 and 10, decoding steps 4 to 6: the mask of message and check bytes over the pad seed
 unfoldable pub seed_masked : ℕ → List ℕ → List ℕ
 seed_masked front p = take front p ++ xored (drop front p) (mgf (take front p) (length p - front))
 
--- all the steps of padding, on the message, zeros for the check bytes, and the pad seed
-unfoldable pub covered : ℕ → ℕ → ℕ → List ℕ → List ℕ → List ℕ
-covered k1 k2 ν e0 p = seed_masked (k1 + k2) (front_masked (k1 + k2) e0 (check_masked k1 k2 e0 (cleared ν p)))
-
--- decode: the steps back, which leave the message, the differences of the check bytes from what they should be, and the pad seed
+-- decoding: the steps back, which leave the message, the differences of the check bytes from what they should be, and the pad seed
 unfoldable pub stripped : ℕ → ℕ → ℕ → List ℕ → List ℕ → List ℕ
 stripped k1 k2 ν e0 p = check_masked k1 k2 e0 (front_masked (k1 + k2) e0 (cleared ν (seed_masked (k1 + k2) p)))
-
--- decode 14: the bits that are set in some byte, gathered byte after byte; none where every byte is zero
-abbrev pub gather_step : List ℕ → ℕ → ℕ → ℕ
-gather_step l i bits = bit_or bits (get_or l i 0)
-
-unfoldable pub gather : List ℕ → ℕ
-gather l = turns (gather_step l) (length l) 0

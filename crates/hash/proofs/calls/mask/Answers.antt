@@ -1,8 +1,8 @@
--- The hasher holds the seed, and the slice is filled.
-use Rattle.std.proofs.Common.{arith}
+use Rattle.std.proofs.Common.{◌≡◌, append-nil, ap, arith, length, ◌∙◌}
+use Rattle.hash.specs.Mask.{mgf}
 use Rattle.hash.proofs.calls.mask.Goals as goal
 
 pub returns : goal.returns
 returns c =
-    let held = c.update.ensures.goes_on _ c.new-hasher.ensures.holds in
-    (omega arith, omega arith, c.fill_mask.ensures _ held)
+    let seed = c.args.seed.now in
+    (omega arith, omega arith, rw (append-nil seed) at c.fill_mask_of.ensures)
