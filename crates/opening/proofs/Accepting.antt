@@ -15,8 +15,8 @@ use Rattle.lists.proofs.Writing.{part_same}
 use Rattle.gf.specs.Field.{◌⊕◌}
 use Rattle.bits.specs.Bits.{elements, packed}
 use Rattle.bits.specs.Numbers.{bytes16}
-use Rattle.padding.specs.declared.Unpadded.{Unpadded}
-use Rattle.padding.specs.declared.Unpadded.TheVariants.{Message as Right, Wrong}
+use Rattle.std.specs.Prelude.{Result, Ok, Err}
+use Rattle.padding.specs.declared.WrongCheck.{WrongCheck}
 use Rattle.padding.specs.Unpads.{Unpads}
 use Rattle.sets.specs.declared.Set.{Set}
 use Rattle.scheme.specs.Keys.{Private, read}
@@ -104,11 +104,11 @@ module _ (s : Set) (a : Area) (key cipher l₀ : List ℕ) (u : ℕ) (A : Laid s
       unfolding repadded
       string-is = ap₂ (λ (p q : List ℕ). packed s.m (p ++ q)) vector-still values-are
 
-      answered : (before after : List ℕ) (q : Unpadded) → Unpads s (repadded s κ x y) (bytes16 (error_places s κ x y)) before q after → Finishes s κ x y q after
-      answered before after Right h = (record { exactly = sym count-is ∙ e; checks = h.0 }, h.1)
-      answered before after Wrong h = λ g. h.0 g.checks
+      answered : (before after : List ℕ) (q : Result (Unit {0}) WrongCheck) → Unpads s (repadded s κ x y) (bytes16 (error_places s κ x y)) before q after → Finishes s κ x y q after
+      answered before after (Ok _) h = (record { exactly = sym count-is ∙ e; checks = h.0 }, h.1)
+      answered before after (Err _) h = λ g. h.0 g.checks
 
-      pub exactly-finished : (before after : List ℕ) (q : Unpadded)
+      pub exactly-finished : (before after : List ℕ) (q : Result (Unit {0}) WrongCheck)
           → Unpads s (packed s.m (vector_in s l ++ tab s.t (value_in s l (elements s.m cipher)))) (bytes16 (part (places_at s) s.t l)) before q after
           → Finishes s (read s key) (vector_in s l₀) (elements s.m cipher) q after
       exactly-finished before after q h =

@@ -15,8 +15,7 @@ use Rattle.sets.specs.declared.Set.{Set}
 use Rattle.scheme.specs.Keys.{Private, WellFormed, read}
 use Rattle.scheme.specs.Opening.{Vector, Opens}
 use Rattle.scheme.specs.Opening as Opening
-use Rattle.padding.specs.declared.Unpadded.{Unpadded}
-use Rattle.padding.specs.declared.Unpadded.TheVariants.{Message as Right, Wrong}
+use Rattle.padding.specs.declared.WrongCheck.{WrongCheck}
 use Rattle.opening.specs.declared.Opened.TheVariants.{Message, Not}
 use Rattle.opening.specs.declared.prepare.Prepared.{Prepared}
 use Rattle.opening.specs.declared.prepare.Prepared.TheVariants.{Malformed, Singular, Ready}
@@ -38,9 +37,6 @@ working-after s key l l' u Q e = working-same s key l l' u Q (same-less (decodin
 
 -- an enum that a test told apart
 
-right-not-wrong : (r : Unpadded) → r ≡ Right → r ≡ Wrong → ⊥
-right-not-wrong r a b = let z : ◌≡◌ {A = ℕ} 0 1 = cc in omega arith
-
 near-told : (s : Set) (y : List ℕ) (r : Result Unit Undecodable) (l : List ℕ) → NearIn s y r l → r ≡ Ok tt → Near ten s.n s.t y (code_in s l)
 near-told s y (Ok x) l N e = N
 near-told s y (Err x) l N e = absurd (let z : ◌≡◌ {A = ℕ} 0 1 = cc in omega arith)
@@ -49,13 +45,11 @@ none_told : (s : Set) (y : List ℕ) (r : Result Unit Undecodable) (l : List ℕ
 none_told s y (Err x) l N e = N
 none_told s y (Ok x) l N e = absurd (e refl)
 
-accepted-told : (s : Set) (κ : Private) (x y : List ℕ) (r : Unpadded) (msg : List ℕ) → Finishes s κ x y r msg → r ≡ Right → Finishes s κ x y Right msg
-accepted-told s κ x y Right msg F e = F
-accepted-told s κ x y Wrong msg F e = absurd (right-not-wrong Wrong e refl)
+accepted-told : (s : Set) (κ : Private) (x y : List ℕ) (r : Result (Unit {0}) WrongCheck) (msg : List ℕ) → Finishes s κ x y r msg → r ≡ Ok tt → Finishes s κ x y (Ok tt) msg
+accepted-told s κ x y r msg F e = rw e at F
 
-wrong-told : (s : Set) (κ : Private) (x y : List ℕ) (r : Unpadded) (msg : List ℕ) → Finishes s κ x y r msg → r ≡ Wrong → Accepted s κ x y → ⊥
-wrong-told s κ x y Wrong msg F e = F
-wrong-told s κ x y Right msg F e = absurd (right-not-wrong Right refl e)
+wrong-told : (s : Set) (κ : Private) (x y : List ℕ) (r : Result (Unit {0}) WrongCheck) (msg : List ℕ) {w : WrongCheck} → Finishes s κ x y r msg → r ≡ Err w → Accepted s κ x y → ⊥
+wrong-told s κ x y r msg F e = rw e at F
 
 module _ (s : Set) (key cipher msg l : List ℕ) (u : ℕ) (Q : Working s key l u) where
   abbrev κ : Private
@@ -83,7 +77,7 @@ module _ (s : Set) (key cipher msg l : List ℕ) (u : ℕ) (Q : Working s key l 
     pub none-not : (r ≡ Ok tt → ⊥) → OpensAs s key cipher Not msg
     none-not e = answer-not (λ m O. none_told s (undone_of s key cipher) r l₁ D.near e O.code (opened-near m O))
 
-    module _ (e : r ≡ Ok tt) (l₂ : List ℕ) (F : Found s key (code_in s l₁) l₂) (f : Unpadded) (E : Finishes s κ (vector_in s l₂) y f msg) where
+    module _ (e : r ≡ Ok tt) (l₂ : List ℕ) (F : Found s key (code_in s l₁) l₂) (f : Result (Unit {0}) WrongCheck) (E : Finishes s κ (vector_in s l₂) y f msg) where
       found : Near ten s.n s.t (undone_of s key cipher) (code_in s l₁)
       found = near-told s (undone_of s key cipher) r l₁ D.near e
 
@@ -97,14 +91,14 @@ module _ (s : Set) (key cipher msg l : List ℕ) (u : ℕ) (Q : Working s key l 
           vector-one s key Q.given Q.formed (regular s key l u Q) (code_in s l₁) O.x (vector_in s l₂) (rw (opened-code m O) at O.vector) F.vector
 
       -- the vector is not accepted
-      pub wrong-not : f ≡ Wrong → OpensAs s key cipher Not msg
+      pub wrong-not : {e : WrongCheck} → f ≡ Err e → OpensAs s key cipher Not msg
       wrong-not w =
           answer-not
           (λ m O. let v : O.x ≡ vector_in s l₂ = opened-vector m O in
           wrong-told s κ (vector_in s l₂) y f msg E w (record { exactly = rw v at O.exactly; checks = rw v at O.checks }))
 
       -- the message
-      pub message-opens : (b : Bool) → b ≡ tail_zero s.m cipher → b ≡ true → f ≡ Right → OpensAs s key cipher Message msg
+      pub message-opens : (b : Bool) → b ≡ tail_zero s.m cipher → b ≡ true → f ≡ Ok tt → OpensAs s key cipher Message msg
       message-opens b d t q =
           let A = accepted-told s κ (vector_in s l₂) y f msg E q in
           let h : s.t + s.t ≡ s.n - s.k = omega (arith, Q.given.valid.code) in (

@@ -20,7 +20,8 @@ use Rattle.gf.proofs.Xor.{add-lt}
 use Rattle.bits.specs.Bits.{elements, packed, bytes_for, Small}
 use Rattle.bits.specs.Numbers.{bytes16}
 use Rattle.bits.proofs.Packing.{elements-small}
-use Rattle.padding.specs.declared.Unpadded.{Unpadded}
+use Rattle.std.specs.Prelude.{Result}
+use Rattle.padding.specs.declared.WrongCheck.{WrongCheck}
 use Rattle.padding.specs.Unpads.{Unpads}
 use Rattle.sets.specs.declared.Set.{Set}
 use Rattle.sets.specs.Valid.{Valid}
@@ -194,7 +195,7 @@ module _ (s : Set) (a : Area) (l : List ℕ) (A : Laid s a) where
   pub numbers-is : (q : List ℕ) → q ≡ bytes16 (part a.places (a.right - a.places) l) → q ≡ bytes16 (part (places_at s) s.t l)
   numbers-is q e = e ∙ ap bytes16 numbers-part
 
-pub unpads-as : (s : Set) (p p' e e' before after : List ℕ) (r : Unpadded) → p ≡ p' → e ≡ e' → Unpads s p e before r after → Unpads s p' e' before r after
+pub unpads-as : (s : Set) (p p' e e' before after : List ℕ) (r : Result (Unit {0}) WrongCheck) → p ≡ p' → e ≡ e' → Unpads s p e before r after → Unpads s p' e' before r after
 unpads-as s p p' e e' before after r ep ee h = subst (λ (x : List ℕ). Unpads s x e' before r after) ep (subst (λ (x : List ℕ). Unpads s p x before r after) ee h)
 
 -- ---- the area with its values
@@ -239,7 +240,7 @@ module _ (s : Set) (a : Area) (cipher l l' : List ℕ) (C : Comparing s a cipher
           let past : length (part (vector_at s) (s.k + s.t) l') ≤ i = omega (arith, part_length (vector_at s) (s.k + s.t) l' (omega (arith, C.room, W.long))) in
           rw get_or-eq_default (pow_pos s.m)
 
-  pub message-is : (before after : List ℕ) (r : Unpadded) → Unpads s (packed s.m (part (vector_at s) (s.k + s.t) l')) (bytes16 (part (places_at s) s.t l')) before r after
+  pub message-is : (before after : List ℕ) (r : Result (Unit {0}) WrongCheck) → Unpads s (packed s.m (part (vector_at s) (s.k + s.t) l')) (bytes16 (part (places_at s) s.t l')) before r after
       → Unpads s (packed s.m (vector_in s l ++ tab s.t (value_in s l (elements s.m cipher)))) (bytes16 (part (places_at s) s.t l)) before r after
   message-is before after r h =
       unpads-as s _ _ _ _ before after r (ap (packed s.m) elements-are)

@@ -1,13 +1,12 @@
 -- The end of opening, from the vector to the message; and opening as a whole.
-use Rattle.std.specs.Prelude.{◌≡◌, List, ℕ, ◌+◌, ◌*◌, ◌≤◌, length}
+use Rattle.std.specs.Prelude.{◌≡◌, List, ℕ, ◌+◌, ◌*◌, ◌≤◌, Result, Ok, Err, length}
 use Rattle.bits.specs.Numbers.{bytes16}
 use Rattle.sets.specs.declared.Set.{Set}
 use Rattle.scheme.specs.Padding.{Checks, message_of}
 use Rattle.scheme.specs.Keys.{Private, WellFormed, read}
 use Rattle.scheme.specs.Opening.{error_places, repadded, Opens}
 use Rattle.scheme.specs.Opening as Opening
-use Rattle.padding.specs.declared.Unpadded.{Unpadded}
-use Rattle.padding.specs.declared.Unpadded.TheVariants.{Message as Right, Wrong}
+use Rattle.padding.specs.declared.WrongCheck.{WrongCheck}
 use Rattle.opening.specs.declared.Opened.{Opened}
 use Rattle.opening.specs.declared.Opened.TheVariants.{Message, Malformed, Singular as SingularW, Not}
 use Rattle.opening.specs.Given.{KeyGiven}
@@ -21,10 +20,10 @@ pub record Accepted (s : Set) (κ : Private) (x y : List ℕ) : Type 0 where
   pub checks : Checks s (repadded s κ x y) (bytes16 (error_places s κ x y))
 
 -- the message of an accepted vector, or it is not accepted
-abbrev pub Finishes : Set → Private → List ℕ → List ℕ → Unpadded → List ℕ → Type 0
-Finishes s κ x y Right msg =
+abbrev pub Finishes : Set → Private → List ℕ → List ℕ → Result (Unit {0}) WrongCheck → List ℕ → Type 0
+Finishes s κ x y (Ok done) msg =
     Accepted s κ x y × (msg ≡ message_of s (repadded s κ x y) (bytes16 (error_places s κ x y)))
-Finishes s κ x y Wrong msg = Accepted s κ x y → ⊥
+Finishes s κ x y (Err wrong) msg = Accepted s κ x y → ⊥
 
 -- ---- opening
 

@@ -18,8 +18,8 @@ use crate::key::element_at;
 use crate::places::keep;
 use bits::{pack, put_numbers};
 use lists::wipe_bytes;
-use padding::{Unpadded, unpad};
-use sets::Set;
+use padding::{WrongCheck, unpad};
+use sets::{ParameterSet, Set};
 
 fn wide(work: &[u16], at: usize) -> usize
     requires { at < length work.now }
@@ -137,18 +137,18 @@ fn unpad_in(
     string: &mut [u8],
     places: &mut [u8],
     message: &mut [u8],
-) -> Unpadded
+) -> Result<(), WrongCheck>
     requires unpadding { Unpadding s a work.now × Fitting s }
     requires lengths { (length string.old ≡ s.k1 + s.k2 + s.k3) × (length places.old ≡ 2 * s.t) × (length message.old ≡ s.k1) }
     ensures { Unpads s (packed s.m (part (vector_at s) (s.k + s.t) work.now)) (bytes16 (part (places_at s) s.t work.now)) message.old result message.new }
 {
     pack_string(s, a, work, string);
     pack_places(s, a, work, places);
-    unpad(s, string, places, message)
+    unpad(ParameterSet { set: s }, string, places, message)
 }
 
 // The same, with room of its own, which is wiped.
-fn unpad_work(s: Set, a: Area, work: &[u16], message: &mut [u8]) -> Unpadded
+fn unpad_work(s: Set, a: Area, work: &[u16], message: &mut [u8]) -> Result<(), WrongCheck>
     requires unpadding { Unpadding s a work.now × Fitting s }
     requires message_length { length message.old ≡ s.k1 }
     ensures { Unpads s (packed s.m (part (vector_at s) (s.k + s.t) work.now)) (bytes16 (part (places_at s) s.t work.now)) message.old result message.new }
@@ -173,7 +173,13 @@ fn unpad_work(s: Set, a: Area, work: &[u16], message: &mut [u8]) -> Unpadded
 }
 
 // The message of the vector and the places in the work area.
-fn take_message(s: Set, a: Area, cipher: &[u8], message: &mut [u8], work: &mut [u16]) -> Unpadded
+fn take_message(
+    s: Set,
+    a: Area,
+    cipher: &[u8],
+    message: &mut [u8],
+    work: &mut [u16],
+) -> Result<(), WrongCheck>
     requires { Comparing s a cipher.now work.old × Differs s work.old × Fitting s × (length message.old ≡ s.k1) }
     ensures { Unpads s (packed s.m (vector_in s work.old ++ tab s.t (value_in s work.old (elements s.m cipher.now)))) (bytes16 (part (places_at s) s.t work.old)) message.old result message.new }
 {
@@ -190,14 +196,14 @@ pub fn finish(
     message: &mut [u8],
     work: &mut [u16],
     u: usize,
-) -> Unpadded
+) -> Result<(), WrongCheck>
     requires laid { Laid s a × Working s key.now work.old u × (length cipher.now ≡ s.cipher) × (length message.old ≡ s.k1) × (2 * s.t ≤ 1024) × (s.k1 + s.k2 + s.k3 ≤ 2048) }
     requires tailed { Tailed s key.now work.old }
     ensures { Finishes s (read s key.now) (vector_in s work.old) (elements s.m cipher.now) result message.new }
 {
     let t = s.t;
     if differ(s, a, cipher, work) != t {
-        return Unpadded::Wrong;
+        return Err(WrongCheck);
     }
     take_message(s, a, cipher, message, work)
 }

@@ -12,7 +12,6 @@ ghost use Rattle.opening.specs.Ending.{OpenGiven, OpensAs};
 use area::{Area, lay};
 use decoding::receive;
 use finish::finish;
-use padding::Unpadded;
 use prepare::{Prepared, prepare};
 use sets::Set;
 use solve::find_vector;
@@ -62,10 +61,10 @@ fn open_prepared(
     };
     find_vector(s, a, key, work, u);
     let finished = finish(s, a, key, cipher, message, work, u);
-    let Unpadded::Message = finished else {
-        return Opened::Not;
-    };
-    Opened::Message
+    match finished {
+        Ok(()) => Opened::Message,
+        Err(_) => Opened::Not,
+    }
 }
 
 // Opens the ciphertext with the key. The key is judged first: malformed, or its matrix W singular. With the answer Message the message is the one

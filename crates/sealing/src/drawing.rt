@@ -10,7 +10,7 @@ use crate::places::choose;
 use bits::{put_numbers, unpack};
 use lists::wipe_bytes;
 use padding::pad;
-use sets::Set;
+use sets::{ParameterSet, Set};
 
 // Room for the places string.
 fn room() -> [u8; 1024]
@@ -27,7 +27,7 @@ fn pad_in(s: Set, msg: &[u8], seed: &[u8], places: &[u16], string: &mut [u8], ou
 {
     let end = 2 * places.len();
     put_numbers(places, &mut string[0..end]);
-    pad(s, msg, seed, &string[0..end], out);
+    pad(ParameterSet { set: s }, msg, seed, &string[0..end], out);
 }
 
 // The same, with room of its own, which is wiped.

@@ -29,19 +29,19 @@ finish-finished-requires c =
     let v = c.find_vector in
     record { laid = (c.requires.0, working-after a.s a.key.now d.new.work v.new.work a.u (decoded-working a.s a.key.now a.cipher.now a.message.now a.work.now a.u c.requires.1 d.new.work d.result d.ensures) v.ensures.1, c.requires.2, c.requires.3, c.requires.4, c.requires.5); tailed = found-tailed a.s a.key.now (code_in a.s d.new.work) v.new.work v.ensures.0 }
 
-pub returns-in_default-finished : goal.returns-in_default-finished
-returns-in_default-finished c =
+pub returns-in-Err : goal.returns-in-Err
+returns-in-Err c =
     let a = c.args in
     let d = c.receive-decoded in
     let v = c.find_vector in
     let f = c.finish-finished in
-    wrong-not a.s a.key.now a.cipher.now f.new.message a.work.now a.u c.requires.1 d.new.work d.result d.ensures (search rules) v.new.work v.ensures.0 f.result f.ensures (search rules)
+    wrong-not a.s a.key.now a.cipher.now f.new.message a.work.now a.u c.requires.1 d.new.work d.result d.ensures (search rules) v.new.work v.ensures.0 f.result f.ensures c.in-Err.is
 
-pub returns : goal.returns
-returns c =
+pub returns-in-Ok : goal.returns-in-Ok
+returns-in-Ok c =
     let a = c.args in
     let z = c.tail_zero in
     let d = c.receive-decoded in
     let v = c.find_vector in
     let f = c.finish-finished in
-    message-opens a.s a.key.now a.cipher.now f.new.message a.work.now a.u c.requires.1 d.new.work d.result d.ensures (search rules) v.new.work v.ensures.0 f.result f.ensures z.result z.ensures c.if-not-tail_zero.false (search rules)
+    message-opens a.s a.key.now a.cipher.now f.new.message a.work.now a.u c.requires.1 d.new.work d.result d.ensures (search rules) v.new.work v.ensures.0 f.result f.ensures z.result z.ensures c.if-not-tail_zero.false c.in-Ok.is

@@ -1,5 +1,5 @@
 -- The parts are filled and masked as the standard of padding says.
-use Rattle.std.proofs.Common.{◌≡◌, rules}
+use Rattle.std.proofs.Common.{rules}
 use Rattle.padding.proofs.Answers.{padded_parts}
 use Rattle.padding.proofs.pad.Goals as goal
 

@@ -1,5 +1,5 @@
 -- What is gathered of the check bytes' differences is zero exactly where they are right.
-use Rattle.std.proofs.Common.{◌≡◌, rules, refl, sym, ◌∙◌, arith, length, length-append, ◌≤◌, [], ◌++◌}
+use Rattle.std.proofs.Common.{rules, refl, sym, ◌∙◌, arith, length, length-append, ◌≤◌, [], ◌++◌}
 use Rattle.padding.proofs.Numbers.{few_bytes}
 use Rattle.padding.proofs.Answers.{stripped_parts, message-part, checks-right, checks-wrong}
 use Rattle.padding.proofs.unpad.Goals as goal
@@ -19,16 +19,18 @@ pub returns-then-gathered-ne0-clause-leaves : goal.returns-then-gathered-ne0-cla
 returns-then-gathered-ne0-clause-leaves c =
     let a = c.args in
     stripped_parts a.parameters.set a.p.now a.e0.now c.requires.padded_length c.args.parameters.valid.some_seed c.split_at_mut-front.ensures.front
-        c.split_at_mut-front.ensures.back c.xor_mask_of.ensures (search rules) c.lost_bits-lost.ensures.value c.clear_last_bits.ensures
-        c.xor_mask_of-2.ensures (search rules) c.split_at_mut-message.ensures.front c.split_at_mut-message.ensures.back c.xor_mask_of-3.ensures (search rules)
+    c.split_at_mut-front.ensures.back c.xor_mask_of.ensures (search rules) c.lost_bits-lost.ensures.value c.clear_last_bits.ensures
+    c.xor_mask_of-2.ensures (search rules) c.split_at_mut-message.ensures.front c.split_at_mut-message.ensures.back c.xor_mask_of-3.ensures (search rules)
 
 pub returns-then-gathered-ne0-clause-unpads : goal.returns-then-gathered-ne0-clause-unpads
 returns-then-gathered-ne0-clause-unpads c =
-    let a = c.args in
-    (checks-wrong a.parameters.set a.p.now a.e0.now c.requires.padded_length c.args.parameters.valid.some_seed c.split_at_mut-front.ensures.front
-        c.split_at_mut-front.ensures.back c.xor_mask_of.ensures (search rules) c.lost_bits-lost.ensures.value c.clear_last_bits.ensures
-        c.xor_mask_of-2.ensures (search rules) c.split_at_mut-message.ensures.front c.split_at_mut-message.ensures.back c.xor_mask_of-3.ensures (search rules)
-        (λ z. c.if-gathered-ne0.true (c.gathered.ensures ∙ z)), refl)
+    let a = c.args in (
+      checks-wrong a.parameters.set a.p.now a.e0.now c.requires.padded_length c.args.parameters.valid.some_seed c.split_at_mut-front.ensures.front
+          c.split_at_mut-front.ensures.back c.xor_mask_of.ensures (search rules) c.lost_bits-lost.ensures.value c.clear_last_bits.ensures
+          c.xor_mask_of-2.ensures (search rules) c.split_at_mut-message.ensures.front c.split_at_mut-message.ensures.back c.xor_mask_of-3.ensures (search rules)
+          (λ z. c.if-gathered-ne0.true (c.gathered.ensures ∙ z)),
+      refl,
+    )
 
 pub returns : goal.returns
 returns c =
@@ -36,14 +38,14 @@ returns c =
     record {
       unpads = (
         checks-right a.parameters.set a.p.now a.e0.now c.requires.padded_length c.args.parameters.valid.some_seed c.split_at_mut-front.ensures.front
-        c.split_at_mut-front.ensures.back c.xor_mask_of.ensures (search rules) c.lost_bits-lost.ensures.value c.clear_last_bits.ensures
-        c.xor_mask_of-2.ensures (search rules) c.split_at_mut-message.ensures.front c.split_at_mut-message.ensures.back c.xor_mask_of-3.ensures (search rules)
-        (sym c.gathered.ensures ∙ c.if-gathered-ne0.false),
+            c.split_at_mut-front.ensures.back c.xor_mask_of.ensures (search rules) c.lost_bits-lost.ensures.value c.clear_last_bits.ensures
+            c.xor_mask_of-2.ensures (search rules) c.split_at_mut-message.ensures.front c.split_at_mut-message.ensures.back c.xor_mask_of-3.ensures (search rules)
+            (sym c.gathered.ensures ∙ c.if-gathered-ne0.false),
         c.copy_from_slice.ensures.after ∙ message-part a.parameters.set a.p.now a.e0.now c.requires.padded_length c.args.parameters.valid.some_seed c.split_at_mut-front.ensures.front
-        c.split_at_mut-front.ensures.back c.xor_mask_of.ensures (search rules) c.lost_bits-lost.ensures.value c.clear_last_bits.ensures
-        c.xor_mask_of-2.ensures (search rules) c.split_at_mut-message.ensures.front c.split_at_mut-message.ensures.back c.xor_mask_of-3.ensures (search rules),
+            c.split_at_mut-front.ensures.back c.xor_mask_of.ensures (search rules) c.lost_bits-lost.ensures.value c.clear_last_bits.ensures
+            c.xor_mask_of-2.ensures (search rules) c.split_at_mut-message.ensures.front c.split_at_mut-message.ensures.back c.xor_mask_of-3.ensures (search rules),
       );
       leaves = stripped_parts a.parameters.set a.p.now a.e0.now c.requires.padded_length c.args.parameters.valid.some_seed c.split_at_mut-front.ensures.front
-        c.split_at_mut-front.ensures.back c.xor_mask_of.ensures (search rules) c.lost_bits-lost.ensures.value c.clear_last_bits.ensures
-        c.xor_mask_of-2.ensures (search rules) c.split_at_mut-message.ensures.front c.split_at_mut-message.ensures.back c.xor_mask_of-3.ensures (search rules);
+          c.split_at_mut-front.ensures.back c.xor_mask_of.ensures (search rules) c.lost_bits-lost.ensures.value c.clear_last_bits.ensures
+          c.xor_mask_of-2.ensures (search rules) c.split_at_mut-message.ensures.front c.split_at_mut-message.ensures.back c.xor_mask_of-3.ensures (search rules);
     }

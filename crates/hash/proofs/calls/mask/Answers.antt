@@ -1,5 +1,4 @@
-use Rattle.std.proofs.Common.{◌≡◌, append-nil, ap, arith, length, ◌∙◌}
-use Rattle.hash.specs.Mask.{mgf}
+use Rattle.std.proofs.Common.{append-nil, arith}
 use Rattle.hash.proofs.calls.mask.Goals as goal
 
 pub returns : goal.returns

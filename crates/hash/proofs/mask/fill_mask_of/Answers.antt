@@ -1,5 +1,5 @@
 -- A mask laid over zeros is the mask.
-use Rattle.std.proofs.Common.{◌≡◌, length}
+use Rattle.std.proofs.Common.{length}
 use Rattle.hash.proofs.Masks.{filled}
 use Rattle.hash.proofs.mask.fill_mask_of.Goals as goal
 
