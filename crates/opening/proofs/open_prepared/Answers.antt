@@ -37,11 +37,11 @@ returns-in-Err c =
     let f = c.finish-finished in
     wrong-not a.s a.key.now a.cipher.now f.new.message a.work.now a.u c.requires.1 d.new.work d.result d.ensures (search rules) v.new.work v.ensures.0 f.result f.ensures c.in-Err.is
 
-pub returns-in-Ok : goal.returns-in-Ok
-returns-in-Ok c =
+pub returns-in-Ok-finished : goal.returns-in-Ok-finished
+returns-in-Ok-finished c =
     let a = c.args in
     let z = c.tail_zero in
     let d = c.receive-decoded in
     let v = c.find_vector in
     let f = c.finish-finished in
-    message-opens a.s a.key.now a.cipher.now f.new.message a.work.now a.u c.requires.1 d.new.work d.result d.ensures (search rules) v.new.work v.ensures.0 f.result f.ensures z.result z.ensures c.if-not-tail_zero.false c.in-Ok.is
+    message-opens a.s a.key.now a.cipher.now f.new.message a.work.now a.u c.requires.1 d.new.work d.result d.ensures (search rules) v.new.work v.ensures.0 f.result f.ensures z.result z.ensures c.if-not-tail_zero.false c.in-Ok-finished.is
