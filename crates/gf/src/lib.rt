@@ -22,54 +22,28 @@ fn times_alpha(v: u16) -> u16
     (v % 512 * 2) ^ (v / 512 % 2 * 9)
 }
 
-// t where x is odd, else 0
-fn where_odd(x: u16, t: u16) -> u16
-    ensures { result ≡ x % 2 * t }
-{
-    x % 2 * t
-}
-
-// f times the ten powers of α from 1 on
+// f times the ten powers of α from α^0 on
 fn multiples(f: u16) -> [u16; 10]
     ensures { result ≡ multiples ten 10 (f % size ten) }
 {
-    let t0 = f % 1024;
-    let t1 = times_alpha(t0);
-    let t2 = times_alpha(t1);
-    let t3 = times_alpha(t2);
-    let t4 = times_alpha(t3);
-    let t5 = times_alpha(t4);
-    let t6 = times_alpha(t5);
-    let t7 = times_alpha(t6);
-    let t8 = times_alpha(t7);
-    let t9 = times_alpha(t8);
-    [t0, t1, t2, t3, t4, t5, t6, t7, t8, t9]
+    let mut t = [0; 10];
+    let mut next = f % 1024;
+    for i in 0..10usize {
+        t[i] = next;
+        next = times_alpha(next);
+    }
+    t
 }
 
 // f times v, from f's multiples t: the sum of those that v's ten low digits ask for
 fn combine(t: [u16; 10], v: u16) -> u16
     ensures { (f : ℕ) → t ≡ multiples ten 10 (f % size ten) → result ≡ mul ten f v }
 {
-    let a1 = v / 2;
-    let a2 = a1 / 2;
-    let a3 = a2 / 2;
-    let a4 = a3 / 2;
-    let a5 = a4 / 2;
-    let a6 = a5 / 2;
-    let a7 = a6 / 2;
-    let a8 = a7 / 2;
-    let a9 = a8 / 2;
-    let p0 = where_odd(v, t[0]);
-    let p1 = where_odd(a1, t[1]);
-    let p2 = where_odd(a2, t[2]);
-    let p3 = where_odd(a3, t[3]);
-    let p4 = where_odd(a4, t[4]);
-    let p5 = where_odd(a5, t[5]);
-    let p6 = where_odd(a6, t[6]);
-    let p7 = where_odd(a7, t[7]);
-    let p8 = where_odd(a8, t[8]);
-    let p9 = where_odd(a9, t[9]);
-    p0 ^ (p1 ^ (p2 ^ (p3 ^ (p4 ^ (p5 ^ (p6 ^ (p7 ^ (p8 ^ p9))))))))
+    let mut sum = 0;
+    for i in 0..10usize {
+        sum ^= (v >> i) % 2 * t[i];
+    }
+    sum
 }
 
 // the product, with no table and no branch: of a number past the field its ten low digits count
