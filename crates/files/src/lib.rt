@@ -3,6 +3,7 @@
 
 ghost use Rattle.std.specs.Prelude.{◌≤◌, length, IfOk, IfSome};
 
+use messages::Words;
 use scheme::Refusal;
 use std::env::{Env, FillError};
 use std::fs::{File, OpenFile, OpenOptions, Permissions};
@@ -35,24 +36,6 @@ pub fn called_with(rt: &impl Env, count: usize, usage: &[u8]) -> bool {
     }
     io::write_all(STDERR, usage);
     false
-}
-
-// The system's words for an error, without the number that std adds to them.
-fn words(text: &str) -> &str {
-    match text.split_once(" (os error ") {
-        Some((front, _)) => front,
-        None => text,
-    }
-}
-
-// Says on standard error what failed, and why; with std's number where there is no memory for the words alone.
-fn fail(rt: &(impl Eprint + Alloc), what: &str, error: Error) {
-    let Ok(text) = format!(in rt.alloc(); "{error}") else {
-        let _ = eprintln!(rt; "{what}: {error}");
-        return;
-    };
-    let why = words(text.as_str());
-    let _ = eprintln!(rt; "{what}: {why}");
 }
 
 /// Argument i, at the start of the slice.
@@ -89,21 +72,21 @@ fn read_named(rt: &impl Files, path: &str, buf: &mut [u8]) -> std::io::Result<us
 
 /// The bytes of the file that argument i names, at the start of the slice, and how many they are, or none: then standard error says why.
 /// A file that is longer than the slice fills it, so a slice that is one byte longer than the file should be shows a longer one.
-pub fn read(rt: &(impl Env + Files + Eprint + Alloc), i: usize, buf: &mut [u8]) -> Option<usize>
+pub fn read(rt: &(impl Env + Files + Eprint), i: usize, buf: &mut [u8]) -> Option<usize>
     ensures count { IfSome result (λ n. n ≤ length buf.old) }
 {
     let mut space = io::buffer();
     let path = match name(rt, i, &mut space) {
         Ok(path) => path,
         Err(error) => {
-            fail(rt, "file name", error);
+            let _ = eprintln!(rt; "file name: {}", Words(error));
             return None;
         }
     };
     match read_named(rt, path, buf) {
         Ok(count) => Some(count),
         Err(error) => {
-            fail(rt, path, error);
+            let _ = eprintln!(rt; "{path}: {}", Words(error));
             None
         }
     }
@@ -133,24 +116,19 @@ fn write_named(rt: &impl Files, path: &str, bytes: &[u8], secret: bool) -> std::
 }
 
 /// Writes the bytes to the file that argument i names and answers true, or says on standard error why not.
-pub fn write(
-    rt: &(impl Env + Files + Eprint + Alloc),
-    i: usize,
-    bytes: &[u8],
-    secret: bool,
-) -> bool {
+pub fn write(rt: &(impl Env + Files + Eprint), i: usize, bytes: &[u8], secret: bool) -> bool {
     let mut space = io::buffer();
     let path = match name(rt, i, &mut space) {
         Ok(path) => path,
         Err(error) => {
-            fail(rt, "file name", error);
+            let _ = eprintln!(rt; "file name: {}", Words(error));
             return false;
         }
     };
     match write_named(rt, path, bytes, secret) {
         Ok(()) => true,
         Err(error) => {
-            fail(rt, path, error);
+            let _ = eprintln!(rt; "{path}: {}", Words(error));
             false
         }
     }

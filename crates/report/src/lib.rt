@@ -4,10 +4,11 @@
 ghost use Rattle.std.specs.Prelude.{◌≡◌, option_map, ℕ, ◌<◌, List, [], ◌∷◌, ◌++◌, IfSome};
 ghost use Rattle.report.specs.Line.{hex_digit, set_of_line, Keeps};
 
+use messages::Words;
 use sets::{ParameterSet, Set};
 use std::fmt;
 use std::fmt::{InlineText, Write};
-use std::io::{Error, Read};
+use std::io::Read;
 
 // The number of standard output.
 const STDOUT: i32 = 1;
@@ -112,21 +113,6 @@ fn feed(line: Line, s: &[u8]) -> Line {
     now
 }
 
-// The system's words for an error, without the number that std adds to them.
-fn words(text: &str) -> &str {
-    match text.split_once(" (os error ") {
-        Some((front, _)) => front,
-        None => text,
-    }
-}
-
-// Says on standard error what failed, and why.
-fn fail(rt: &impl Eprint, what: &str, error: Error) {
-    let text = InlineText::<256>::of(error);
-    let why = words(text.as_str());
-    let _ = eprintln!(rt; "{what}: {why}");
-}
-
 // Answers each line of standard input; a last one with no line feed counts if it is not empty.
 pub fn run(rt: &(impl Input + Eprint)) {
     let mut space = io::large_buffer();
@@ -135,7 +121,7 @@ pub fn run(rt: &(impl Input + Eprint)) {
     for _ in 0..u64::MAX {
         match input.read(&mut space) {
             Err(error) => {
-                fail(rt, "standard input", error);
+                let _ = eprintln!(rt; "standard input: {}", Words(error));
                 return;
             }
             Ok(0) => break,
