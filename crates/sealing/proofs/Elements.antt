@@ -1,15 +1,14 @@
 -- The search for a zero value, and what drawing leaves in the work area.
-use mathlib.Core.Path.{◌≡◌, sym, ap, ap₂, ◌∙◌}
-use mathlib.Core.Logic.{◌≢◌}
-use mathlib.Core.Bool.{Bool, true, false, not}
-use mathlib.Core.List.{List}
-use Prim.Native.Nat.{ℕ, ◌+◌, ◌-◌, ◌*◌, ◌≤◌, ◌<◌}
+use Rattle.std.specs.List.{list_any}
+use lib.Dec.{eqb}
+use mathlib.Core.Path.{◌≡◌, refl, sym, ap, ap₂, ◌∙◌}
+use mathlib.Core.Bool.{Bool, not, ◌||◌}
+use mathlib.Core.List.{List, [], ◌∷◌}
+use Prim.Native.Nat.{ℕ, ◌+◌, ◌-◌, ◌*◌, ◌≤◌}
 use native.Mathlib.Nat.{add-sub_cancel_left}
-use native.Mathlib.Numerals.{add-one}
 use native.Mathlib.Omega.{arith}
-use borrow.Author.Tests.{eq-eqb, ne_eqb}
-use lib.ListN.{length, get_or, take, drop, length-take, length-drop, drop_of_length-le}
-use lib.Seq.{drop-cons, take_all, drop-drop, take-add, drop_at, take-take, length-take-le}
+use lib.ListN.{length, take, drop, length-take, length-drop}
+use lib.Seq.{take_all, drop-drop, take-add, drop_at, take-take, length-take-le}
 use Rattle.lists.specs.Parts.{part, put}
 use Rattle.lists.proofs.Parts.{part_length, put_same, put-before}
 use Rattle.sets.specs.declared.Set.{Set}
@@ -18,34 +17,17 @@ use Rattle.perm.specs.Shuffle.{shuffled}
 use Rattle.bits.specs.Numbers.{bytes16}
 use Rattle.bits.specs.Bits.{elements, elements_in}
 use Rattle.bits.proofs.Packing.{length-elements}
-use Rattle.bits.proofs.Sixteen.{length-bytes16}
 use Rattle.padding.proofs.Sizes.{length-padded}
 use Rattle.scheme.specs.Lists.{has, passing}
 use Rattle.scheme.specs.Padding.{padded}
 use Rattle.scheme.specs.Sealing.{triple_elements, error_values, block_seed, block_places, fits}
 use Rattle.sealing.specs.Steps.{Room, Drew, Drawn, Tried}
 
--- ---- a search for zero: what is left to look at has one where the whole does
-module _ (l : List ℕ) (i : ℕ) (e : has (drop i l) 0 ≡ has l 0) where
-  pub zero-later : i < length l → get_or l i 0 ≢ 0 → has (drop (i + 1) l) 0 ≡ has l 0
-  unfolding has
-  zero-later h d = rw (add-one i) (rw (drop-cons l i 0 h, ne_eqb (get_or l i 0) 0 d) at e)
-
-  pub zero-here : i < length l → get_or l i 0 ≡ 0 → false ≡ not (has l 0)
-  unfolding has
-  zero-here h z = ap not (rw (drop-cons l i 0 h, eq-eqb (get_or l i 0) 0 z) at e)
-
-  pub zero-nowhere : length l ≤ i → true ≡ not (has l 0)
-  unfolding has
-  zero-nowhere h = ap not (rw (drop_of_length-le l h) at e)
-
--- ---- the places string
-pub string-is : (s : Set) (msg seed places p string out : List ℕ) → length string ≡ 1024 → 2 * length places ≤ 1024 → p ≡ bytes16 places
-    → out ≡ padded s msg seed (part 0 (2 * length places - 0) (put 0 (2 * length places - 0) p string))
-    → out ≡ padded s msg seed (bytes16 places)
-string-is s msg seed places p string out long fits e q =
-    let n : length p ≡ 2 * length places - 0 = ap length e ∙ length-bytes16 places ∙ omega arith in
-    q ∙ ap (padded s msg seed) (put_same 0 (2 * length places - 0) p string (omega arith) n ∙ e)
+-- ---- a search for a number
+pub any-has : (l : List ℕ) (x : ℕ) → list_any (λ y. eqb y x) l ≡ has l x
+unfolding has
+any-has [] x = refl
+any-has (y ∷ l) x = ap (λ (b : Bool). eqb y x || b) (any-has l x)
 
 -- ---- parts that are lent from a start to an end
 pub lent-few : (a n most : ℕ) (w : List ℕ) → 2 * n ≤ most → 2 * length (part a (a + n - a) w) ≤ most

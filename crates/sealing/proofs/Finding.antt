@@ -11,7 +11,7 @@ use Rattle.lists.specs.Parts.{part}
 use Rattle.lists.proofs.Loops.{first-again, first_found, first-nowhere}
 use Rattle.sets.specs.declared.Set.{Set}
 use Rattle.scheme.specs.Sealing.{block_at, fits, first_fitting}
-use Rattle.sealing.specs.declared.Sealed.TheVariants.{By}
+use Rattle.std.specs.Prelude.{Some}
 use Rattle.sealing.specs.Steps.{Tried}
 use Rattle.sealing.specs.Seals.{Finds}
 use Rattle.sealing.proofs.Elements.{lent}
@@ -30,7 +30,7 @@ first-from s msg random = rw sub-zero
 
 module _ (s : Set) (msg random : List ℕ) (b : ℕ) (left : first_fitting s msg random ≡ first (λ i. fits s msg (block_at s random i)) (length random / s.block - b) b) where
   module _ (h : b < length random / s.block) (r : Bool) (w : List ℕ) (t : Tried s msg (part (s.block * b) (s.block * b + s.block - s.block * b) random) r w) where
-    pub found_here : r ≡ true → Finds s random msg (By b) w
+    pub found_here : r ≡ true → Finds s random msg (Some b) w
     found_here e =
         let u : Tried s msg (block_at s random b) r w = rw (lent (s.block * b) s.block random) at t in
         (first_found (λ i. fits s msg (block_at s random i)) (length random / s.block) b (first_fitting s msg random) left h (sym u.answer ∙ e), h, u.drawn)

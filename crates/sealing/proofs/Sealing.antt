@@ -9,17 +9,16 @@ use Rattle.sets.specs.declared.Set.{Set}
 use Rattle.sets.specs.Valid.{Valid}
 use Rattle.scheme.specs.Keys.{public_ge}
 use Rattle.scheme.specs.Sealing.{sent, block_at, first_fitting, sealed_by}
-use Rattle.sealing.specs.declared.Sealed.{Sealed}
-use Rattle.sealing.specs.declared.Sealed.TheVariants.{By, Nowhere}
+use Rattle.std.specs.Prelude.{Option, Some, None}
 use Rattle.sealing.specs.Steps.{Room, Ready}
 use Rattle.sealing.specs.Seals.{Finds, Seals}
 use Rattle.sealing.proofs.Blocks.{drawn-ready, drawn-sent}
 
-pub none_found : (s : Set) (random msg w : List ℕ) (r : Sealed) → r ≡ Nowhere → Finds s random msg r w → first_fitting s msg random ≡ length random / s.block
+pub none_found : (s : Set) (random msg w : List ℕ) (r : Option ℕ) → r ≡ None → Finds s random msg r w → first_fitting s msg random ≡ length random / s.block
 none_found s random msg w r e f = rw e at f
 
-module _ (s : Set) (v : Valid s) (room : Room s) (random msg w : List ℕ) (work : length w ≡ s.work) (b : ℕ) (r : Sealed) (e : r ≡ By b) (f : Finds s random msg r w) where
-  found : Finds s random msg (By b) w
+module _ (s : Set) (v : Valid s) (room : Room s) (random msg w : List ℕ) (work : length w ≡ s.work) (b : ℕ) (r : Option ℕ) (e : r ≡ Some b) (f : Finds s random msg r w) where
+  found : Finds s random msg (Some b) w
   found = rw e at f
 
   pub found-ready : Ready s w
@@ -27,6 +26,6 @@ module _ (s : Set) (v : Valid s) (room : Room s) (random msg w : List ℕ) (work
 
   pub found-sealed : (key cipher : List ℕ)
       → cipher ≡ packed s.m (sent s (public_ge s key) (part (3 * (s.n + s.w)) s.k w) (part (2 * (s.n + s.w)) s.t w) (part (3 * (s.n + s.w) + s.k) s.t w))
-      → Seals s key random msg (By b) cipher
+      → Seals s key random msg (Some b) cipher
   unfolding sealed_by
   found-sealed key cipher q = (found.0, found.1, q ∙ drawn-sent s v room msg (block_at s random b) w work found.2 key)

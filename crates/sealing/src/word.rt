@@ -1,45 +1,45 @@
 // The word that is sent: the vector times [I, GE], with the error values added at their places.
 ghost use Rattle.std.specs.Prelude.{◌≡◌, ℕ, ◌+◌, ◌-◌, ◌*◌, ◌<◌, ◌≤◌, ◌^◌, length, get_or};
 ghost use Rattle.lists.specs.Parts.{part, Wrote};
-ghost use Rattle.sets.specs.Valid.{Valid};
 ghost use Rattle.gf.specs.Field.{width};
-ghost use Rattle.bits.specs.Bits.{elements_at, packed};
+ghost use Rattle.bits.specs.Bits.{elements_at};
 ghost use Rattle.scheme.specs.Field.{field_of};
-ghost use Rattle.scheme.specs.Keys.{public_ge};
-ghost use Rattle.scheme.specs.Sealing.{sent};
-ghost use Rattle.sealing.specs.Steps.{Room, Laid, Rising, Summed, Added, Ready, row_added};
+ghost use Rattle.sealing.specs.Steps.{Room, Laid, Rising, Summed, Added, Ready, row_added, sent_by};
 
-use crate::places::wide;
 use bits::pack;
 use gf::add_run;
-use lists::wipe_numbers;
 use reader::elements;
-use sets::Set;
+use sets::ParameterSet;
 
 // The n numbers from `from` on, copied to the front.
 fn copy_down(work: &mut [u16], from: usize, n: usize)
-    requires { (n ≤ from) × (from + n ≤ length work.old) }
+    requires apart { n ≤ from }
+    requires inside { from + n ≤ length work.old }
     ensures { Wrote 0 n (λ i. get_or work.old (from + i) 0) work.old work.new }
 {
-    let mut i = 0;
-    while i < n {
+    for i in 0..n {
         work[i] = work[from + i];
-        i += 1;
     }
 }
 
 // The vector, then zeros.
 fn lay(work: &mut [u16], size: usize, k: usize)
-    requires { (k ≤ size) × (4 * size ≤ length work.old) }
+    requires columns { k ≤ size }
+    requires runs_fit { 4 * size ≤ length work.old }
     ensures { Laid size k work.old work.new }
 {
     copy_down(work, 3 * size, k);
-    wipe_numbers(&mut work[k..size]);
+    work[k..size].fill(0);
 }
 
 // Row i of GE, which a reader takes from a bit place of the key, times element i of the vector, added to the columns from k on.
 fn add_row(key: &[u8], m: usize, place: usize, work: &mut [u16], size: usize, k: usize, i: usize)
-    requires { (m ≤ 16) × (place + m * (size - k) ≤ 8 * length key.now) × (k ≤ size) × (i < size) × (4 * size ≤ length work.old) × (place + m * (size - k) < 2 ^ 64) }
+    requires narrow { m ≤ 16 }
+    requires inside { place + m * (size - k) ≤ 8 * length key.now }
+    requires near { place + m * (size - k) < 2 ^ 64 }
+    requires columns { k ≤ size }
+    requires row { i < size }
+    requires runs_fit { 4 * size ≤ length work.old }
     ensures { work.new ≡ row_added m key.now place k size i work.old }
 {
     let end = size + (size - k);
@@ -50,22 +50,29 @@ fn add_row(key: &[u8], m: usize, place: usize, work: &mut [u16], size: usize, k:
 
 // All k rows of GE, which stand in the key after its first byte, times the vector.
 fn add_rows(key: &[u8], m: usize, work: &mut [u16], size: usize, k: usize)
-    requires { (m ≤ 16) × (k ≤ size) × (size ≤ 65536) × (8 + m * (k * (size - k)) ≤ 8 * length key.now) × (4 * size ≤ length work.old) × Laid size k work.old work.old }
+    requires narrow { m ≤ 16 }
+    requires columns { k ≤ size }
+    requires small { size ≤ 65536 }
+    requires inside { 8 + m * (k * (size - k)) ≤ 8 * length key.now }
+    requires runs_fit { 4 * size ≤ length work.old }
+    requires laid { Laid size k work.old work.old }
     ensures { Summed size k (elements_at (k * (size - k)) m key.now 8) (part (3 * size) k work.old) k work.old work.new }
 {
     let step = m * (size - k);
     let mut place = 8;
-    let mut i = 0;
-    while i < k {
+    for i in 0..k {
         add_row(key, m, place, work, size, k, i);
         place += step;
-        i += 1;
     }
 }
 
 // The vector that stands from 3N on times [I, GE].
 fn encode(key: &[u8], m: usize, work: &mut [u16], size: usize, k: usize)
-    requires { (m ≤ 16) × (k ≤ size) × (size ≤ 65536) × (8 + m * (k * (size - k)) ≤ 8 * length key.now) × (4 * size ≤ length work.old) }
+    requires narrow { m ≤ 16 }
+    requires columns { k ≤ size }
+    requires small { size ≤ 65536 }
+    requires inside { 8 + m * (k * (size - k)) ≤ 8 * length key.now }
+    requires runs_fit { 4 * size ≤ length work.old }
     ensures { Summed size k (elements_at (k * (size - k)) m key.now 8) (part (3 * size) k work.old) k work.old work.new }
 {
     lay(work, size, k);
@@ -77,21 +84,23 @@ fn add_values(work: &mut [u16], size: usize, places: usize, values: usize, t: us
     requires { (size ≤ places) × (size ≤ values) × (places + t ≤ length work.old) × (values + t ≤ length work.old) × Rising (part places t work.old) × ((i : ℕ) → i < t → get_or work.old (places + i) 0 < size) }
     ensures { Added size (part places t work.old) (part values t work.old) 0 work.old work.new }
 {
-    let mut i = t;
-    while 0 < i {
-        i -= 1;
-        let at = wide(work[places + i]);
-        work[at] = work[at] ^ work[values + i];
+    for i in (0..t).rev() {
+        let at = usize::from(work[places + i]);
+        work[at] ^= work[values + i];
     }
 }
 
 // The ciphertext of the vector, the places and the values in the work area.
-pub fn send(s: Set, key: &[u8], work: &mut [u16], cipher: &mut [u8])
-    requires valid { Valid s }
-    requires room { Room s }
-    requires ready { (s.m ≡ width (field_of s)) × (length key.now ≡ s.public) × (length work.old ≡ s.work) × (length cipher.old ≡ s.cipher) × Ready s work.old }
-    ensures { cipher.new ≡ packed s.m (sent s (public_ge s key.now) (part (3 * (s.n + s.w)) s.k work.old) (part (2 * (s.n + s.w)) s.t work.old) (part (3 * (s.n + s.w) + s.k) s.t work.old)) }
+pub fn send(parameters: ParameterSet, key: &[u8], work: &mut [u16], cipher: &mut [u8])
+    requires room { Room parameters.set }
+    requires field_width { parameters.set.m ≡ width (field_of parameters.set) }
+    requires key_length { length key.now ≡ parameters.set.public }
+    requires work_length { length work.old ≡ parameters.set.work }
+    requires cipher_length { length cipher.old ≡ parameters.set.cipher }
+    requires ready { Ready parameters.set work.old }
+    ensures { cipher.new ≡ sent_by parameters.set key.now work.old }
 {
+    let s = parameters.set;
     let size = s.n + s.w;
     let m = s.m;
     encode(key, m, work, size, s.k);
