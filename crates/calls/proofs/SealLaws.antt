@@ -10,13 +10,11 @@ use lib.ListN.{length, get_or, drop, replicate, length-replicate, replicate-appe
 use lib.Seq.{drop_at}
 use borrow.Author.Tests.{eq-eqb, ne_eqb, le-leb, lt-leb, lt-ltb, le-ltb, eqb-true, not-true, not-false}
 use Rattle.sets.specs.declared.Set.{Set}
-use Rattle.std.specs.Prelude.{Some, None, Ok, Err}
+use Rattle.std.specs.Prelude.{Option, Some, None, Ok, Err}
 use Rattle.sets.specs.Table.{set_of}
 use Rattle.scheme.specs.declared.Refusal.TheVariants.{UnknownSet, WrongLength, ZeroValues, WrongSecret}
 use Rattle.scheme.specs.Sealing.{first_fitting, secret_message}
 use Rattle.scheme.specs.Calls.{zeroed, SealEnd, seal_lengths, after_seal, seal_of, seal_ends, wrap_of, wrap_ends}
-use Rattle.sealing.specs.declared.Sealed.{Sealed}
-use Rattle.sealing.specs.declared.Sealed.TheVariants.{By, Nowhere}
 use Rattle.sealing.specs.Seals.{Seals}
 use Rattle.calls.specs.Given.{Serves, SealGiven}
 use Rattle.calls.specs.Ends.{seal_end}
@@ -55,18 +53,18 @@ module _ (s : Set) (key random cipher work : ℕ) where
 
 -- ---- past the first checks
 module _ (s : Set) (key random msg cipher work work₁ work₂ : List ℕ) (kept : length work₁ ≡ length work) (z : work₂ ≡ zeroed work₁)
-    (r : Sealed) (cipher₁ : List ℕ) (m : Seals s key random msg r cipher₁) where
-  pub sealed-by : (b : ℕ) → r ≡ By b → seal_end (Ok b) cipher₁ work₂ ≡ after_seal s key random msg cipher work
+    (r : Option ℕ) (cipher₁ : List ℕ) (m : Seals s key random msg r cipher₁) where
+  pub sealed-by : (b : ℕ) → r ≡ Some b → seal_end (Ok b) cipher₁ work₂ ≡ after_seal s key random msg cipher work
   unfolding after_seal
   sealed-by b e =
-      let f : Seals s key random msg (By b) cipher₁ = rw e at m in
+      let f : Seals s key random msg (Some b) cipher₁ = rw e at m in
       rw (← f.0, lt-ltb b (length random / s.block) f.1, ← f.2, z, kept)
 
-  pub sealed-nowhere : r ≡ Nowhere → (cipher₂ : List ℕ) → length cipher₁ ≡ length cipher → cipher₂ ≡ zeroed cipher₁
+  pub sealed-nowhere : r ≡ None → (cipher₂ : List ℕ) → length cipher₁ ≡ length cipher → cipher₂ ≡ zeroed cipher₁
       → seal_end (Err ZeroValues) cipher₂ work₂ ≡ after_seal s key random msg cipher work
   unfolding after_seal
   sealed-nowhere e cipher₂ same q =
-      let f : Seals s key random msg Nowhere cipher₁ = rw e at m in
+      let f : Seals s key random msg None cipher₁ = rw e at m in
       let g : length random / s.block ≤ first_fitting s msg random = omega arith in
       rw (le-ltb (first_fitting s msg random) (length random / s.block) g, z, kept, q, same)
 

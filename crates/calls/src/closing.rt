@@ -8,8 +8,7 @@ ghost use Rattle.calls.specs.Ends.{seal_end};
 use crate::space::room;
 use lists::{wipe_bytes, wipe_numbers};
 use scheme::Refusal;
-use sealing::Sealed;
-use sets::Set;
+use sets::{ParameterSet, Set};
 
 /// Whether the lengths are those of the set, and the random bytes from 1 to 16 blocks.
 fn right_lengths(s: Set, key: usize, random: usize, cipher: usize, work: usize) -> bool
@@ -38,9 +37,9 @@ fn seal_checked(
     requires message_length { length message.now ≡ s.k1 }
     ensures { seal_end result cipher.new work.new ≡ after_seal s key.now random.now message.now cipher.old work.old }
 {
-    let sealed = sealing::seal(s, key, random, message, cipher, work);
+    let sealed = sealing::seal(ParameterSet { set: s }, key, random, message, cipher, work);
     wipe_numbers(work);
-    let Sealed::By(block) = sealed else {
+    let Some(block) = sealed else {
         wipe_bytes(cipher);
         return Err(Refusal::ZeroValues);
     };
