@@ -4,8 +4,6 @@ use Rattle.sets.specs.declared.Set.{Set}
 use Rattle.scheme.specs.declared.Refusal.{Refusal}
 use Rattle.scheme.specs.Answers.{Answer, Opened as Disclosed}
 use Rattle.scheme.specs.Calls.{zeroed, SetupEnd, SealEnd}
-use Rattle.making.specs.declared.Made.{Made}
-use Rattle.making.specs.Stages.{Makes}
 use Rattle.opening.specs.declared.Opened.{Opened}
 use Rattle.opening.specs.Ending.{OpensAs}
 
@@ -15,17 +13,6 @@ setup_end answer public private work = record { answer = answer; public = public
 
 abbrev pub seal_end : Answer → List ℕ → List ℕ → SealEnd
 seal_end answer cipher work = record { answer = answer; cipher = cipher; work = work }
-
--- what setup makes, and the work area is zero
-pub record MadeWiped (s : Set) (random work : List ℕ) (r : Made) (public private work' : List ℕ) : Type 0 where
-  pub makes : Makes s random r public private
-  pub wiped : work' ≡ zeroed work
-
--- a refusal: both keys are zero
-pub record Refused (e : Refusal) (r : Answer) (public private public' private' : List ℕ) : Type 0 where
-  pub answer : r ≡ Err e
-  pub no_public : public' ≡ zeroed public
-  pub no_private : private' ≡ zeroed private
 
 -- what opening gives, and the work area is zero
 pub record OpenedWiped (s : Set) (key cipher work : List ℕ) (r : Opened) (message work' : List ℕ) : Type 0 where

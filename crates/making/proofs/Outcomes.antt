@@ -1,213 +1,165 @@
 -- Setup's definition, case by case, from what the stages leave.
-use mathlib.Core.Path.{◌≡◌, sym, ap, ◌∙◌}
-use mathlib.Core.Bool.{Bool, true, false, not}
-use mathlib.Core.List.{List}
-use Prim.Native.Nat.{ℕ, ◌+◌, ◌-◌, ◌*◌, ◌/◌, ◌%◌, ◌≤◌, ◌<◌}
-use native.Mathlib.Nat.{mod-lt, div-lt_iff_lt-mul, zero-add}
-use native.Mathlib.Omega.{arith}
+use Rattle.std.proofs.Common.{◌≡◌, refl, sym, ap, ◌∙◌, ℕ, zero, suc, ◌+◌, ◌-◌, ◌*◌, ◌/◌, ◌%◌, ◌≤◌, ◌<◌, ◌^◌, List, [], ◌∷◌, ◌++◌, length, get_or, take, drop, length-append, append_assoc, Result, Err, arith}
+use native.Mathlib.Nat.{mod-lt, div-lt_iff_lt-mul, mul-le-mul_right}
 use native.Mathlib.Decide.{dec_lt}
-use lib.Dec.{ltb}
-use lib.ListN.{length, get_or, get_or-eq_default}
-use lib.Seq.{length-take-le}
-use lib.Arith.{lt_of_le-ne}
-use borrow.Author.Tests.{lt-ltb, le-ltb, not-true, not-false}
-use Rattle.lists.specs.Loops.{pick}
-use Rattle.lists.specs.Parts.{part}
-use Rattle.lists.proofs.Tables.{get_or-tab, tab-ext}
-use Rattle.lists.proofs.Writing.{part_same}
-use Rattle.gf.specs.Field.{◌⊕◌, mul, size, width}
+use lib.ListN.{get_or-append, get_or-eq_default}
+use lib.Seq.{drop_at, take-length, get_or-append-add}
+use borrow.Author.Tests.{lt-ltb, le-ltb}
+use Rattle.lists.proofs.Tables.{length-tab, get_or-tab}
+use Rattle.gf.specs.Field.{size, width}
 use Rattle.gf.specs.Ten.{ten}
-use Rattle.gf.proofs.Ring.{mul-lt}
-use Rattle.gf.proofs.Xor.{add-lt}
+use Rattle.gf.proofs.Ring.{mul-lt, inverse-lt}
 use Rattle.gf.proofs.Ten.{ten-field}
-use Rattle.bits.specs.Bits.{Small}
+use Rattle.bits.specs.Bits.{Small, packed}
+use Rattle.bits.specs.Numbers.{bytes16}
+use Rattle.perm.specs.Perm.{Perm}
+use Rattle.perm.proofs.Permutations.{entries-low}
+use Rattle.perm.proofs.Shuffling.{shuffled-perm}
 use Rattle.sets.specs.declared.Set.{Set}
-use Rattle.sets.specs.Valid.{key_elements}
+use Rattle.sets.specs.Valid.{Valid, key_elements}
 use Rattle.linear.specs.Matrix.{Matrix}
-use Rattle.linear.specs.Elimination.{Done, eliminated}
-use Rattle.linear.proofs.Laws.{tab-matrix, end-matrix}
+use Rattle.linear.proofs.Laws.{end-matrix}
 use Rattle.scheme.specs.declared.Refusal.TheVariants.{FewMultipliers, FewElements, NoWindow, Dependent}
-use Rattle.scheme.specs.Matrices.{listed, scale_columns, permute_columns, join_columns, multiply_pairs}
-use Rattle.scheme.specs.Setup.{usable, multipliers, block_elements, found, none, blocks, permutation1, permutation2, window, chain, right_part, made, fails, reduced_pair, with_blocks, setup}
-use Rattle.making.specs.Area.{Room, matrix_size, multipliers_at, blocks_at, first_at, second_at, generator_at, Holds}
-use Rattle.making.specs.Keys.{PermsIn}
-use Rattle.making.specs.Stages.{Multiplied, Blocked, Ordered, Tables, end_of, Reached, Keyed, Given}
-use Rattle.making.proofs.Rooms.{room}
-use Rattle.making.proofs.Entries.{row_fits}
-use Rattle.making.proofs.StageLaws.{holds-part, length-first, first-perm, length-second, second-perm, length-right, small-as}
+use Rattle.scheme.specs.Lists.{inverse_of}
+use Rattle.scheme.specs.Matrices.{listed}
+use Rattle.scheme.specs.Keys.{public_key, private_key}
+use Rattle.scheme.specs.Setup.{usable, multipliers, block_elements, found, none, blocks, permutation1, permutation2, window, inverse_columns, inverses, right_part, made, fails, reduced_pair, with_blocks, setup}
+use Rattle.scheme.specs.declared.Refusal.{Refusal}
+use Rattle.making.specs.Filling.{reduction}
+use Rattle.making.specs.Stages.{Makes}
+use Rattle.making.proofs.Filled.{chain_matrix}
+use Rattle.making.proofs.KeyLaws.{length-inverses}
+
+-- ---- the permutations
+pub first_perm : (s : Set) (random l : List ℕ) → l ≡ permutation1 s random → Perm l
+unfolding permutation1
+first_perm s random l e = rw e (shuffled-perm _ s.n (s.n - 1) (omega arith))
+
+pub second_perm : (s : Set) (random l : List ℕ) (p : ℕ) → l ≡ permutation2 s random p → Perm l
+unfolding permutation2
+second_perm s random l p e = rw e (shuffled-perm _ (s.n + s.w) (s.n + s.w - 1) (omega arith))
+
+pub low : (l : List ℕ) (n : ℕ) → Perm l → length l ≡ n → (i : ℕ) → i < n → get_or l i 0 < n
+low l n perm e i h = rw (← e) (entries-low l perm i (omega arith))
 
 -- ---- the refusals
+pub refused : (s : Set) (random public private : List ℕ) (r : Result ℕ Refusal) (e e' : Refusal) → r ≡ Err e → e ≡ e' → setup s random ≡ fails e' → Makes s random r public private
+refused s random public private r e e' q h d = rw (q, h) d
+
 module _ (s : Set) (random : List ℕ) where
-  pub few-multipliers : length (usable s random) < s.n → setup s random ≡ fails FewMultipliers
+  pub few_multipliers : length (usable s random) < s.n → setup s random ≡ fails FewMultipliers
   unfolding setup
-  few-multipliers h = rw (lt-ltb (length (usable s random)) s.n h)
+  few_multipliers h = rw (lt-ltb (length (usable s random)) s.n h)
 
   module _ (enough : s.n ≤ length (usable s random)) where
-    pub few-elements : blocks ten s.w (block_elements s random) ≡ none → setup s random ≡ fails FewElements
+    pub few_elements : blocks ten s.w (block_elements s random) ≡ none → setup s random ≡ fails FewElements
     unfolding setup with_blocks
-    few-elements e = rw (le-ltb (length (usable s random)) s.n enough, e)
+    few_elements e = rw (le-ltb (length (usable s random)) s.n enough, e)
 
     module _ (A : List ℕ) (is : blocks ten s.w (block_elements s random) ≡ found A) where
-      pub no-window : 5 ≤ window s random → setup s random ≡ fails NoWindow
+      pub no_window : window s random ≡ 5 → setup s random ≡ fails NoWindow
       unfolding setup with_blocks
-      no-window h = rw (le-ltb (length (usable s random)) s.n enough, is, le-ltb (window s random) 5 h)
+      no_window h = rw (le-ltb (length (usable s random)) s.n enough, is, le-ltb (window s random) 5 (omega arith))
 
-      pub past-window : window s random < 5 → setup s random ≡ reduced_pair s random A (window s random)
+      past-window : window s random < 5 → setup s random ≡ reduced_pair s random A (window s random)
       unfolding setup with_blocks
       past-window h = rw (le-ltb (length (usable s random)) s.n enough, is, lt-ltb (window s random) 5 h)
 
--- ---- what stands after each stage
-module _ (s : Set) (random l₁ l₂ l₃ : List ℕ) (p : ℕ) (room : Room s) (lw : length l₃ ≡ s.work)
-    (m : Multiplied s random l₁ true) (b : Blocked s random l₁ l₂ true) (o : Ordered s random l₂ l₃ p) (lt : p < 5) (lw₂ : length l₂ ≡ s.work) where
-  multipliers-stand : Holds (multipliers_at s) s.n (multipliers s random) l₃
-  multipliers-stand i h = o.before (multipliers_at s + i) (omega arith) ∙ b.1 (multipliers_at s + i) (omega arith) ∙ m.1 i h
+      module _ (p : ℕ) (at : window s random ≡ p) (lt : p < 5) (P2 : List ℕ) (second : P2 ≡ permutation2 s random p) where
+        to-pair : setup s random ≡ reduced_pair s random A p
+        to-pair = rw (← at) (past-window (omega arith))
 
-  second-part : part (second_at s) (s.n + s.w) l₃ ≡ permutation2 s random p
-  second-part = holds-part (second_at s) (s.n + s.w) (permutation2 s random p) l₃ (o.second lt) (length-second s random p) (omega (arith, room.run))
+        pub dependent : (reduction s random A P2).cols < s.k → setup s random ≡ fails Dependent
+        unfolding reduced_pair
+        dependent h = to-pair ∙ rw (← second, lt-ltb (reduction s random A P2).cols s.k h)
 
-  pub tables-stand : Tables s random l₃
-  tables-stand = record { multipliers = multipliers-stand; first = o.first; second = rw second-part (second-perm s random p) }
+        pub pair : s.k ≤ (reduction s random A P2).cols → (V P1 m ge public private : List ℕ) → V ≡ multipliers s random → P1 ≡ permutation1 s random → m ≡ (reduction s random A P2).mat
+            → ge ≡ right_part s m → public ≡ public_key s ge
+            → private ≡ s.byte ∷ (bytes16 (inverse_of P1) ++ (bytes16 (inverse_of P2) ++ packed s.m (inverse_columns ten A ++ (inverses ten V ++ right_part s m))))
+            → setup s random ≡ made public private (p + 1)
+        unfolding reduced_pair private_key
+        pair h V P1 m ge public private ev e1 em eg e q =
+            to-pair ∙ rw (← second, le-ltb (reduction s random A P2).cols s.k h, e, q, eg, ← ev, ← e1, ← em)
 
-  blocks-part : part (blocks_at s) (4 * s.w) l₃ ≡ part (blocks_at s) (4 * s.w) l₂
-  blocks-part = part_same (blocks_at s) (4 * s.w) l₂ l₃ (lw ∙ sym lw₂) (λ i h. o.before (blocks_at s + i) (omega arith))
+-- ---- the run of elements
+small-as : (m n : ℕ) (x : List ℕ) → m ≡ n → Small m x → Small n x
+small-as m n x e h i = rw (← e) (h i)
 
-  pub to-pair : setup s random ≡ reduced_pair s random (part (blocks_at s) (4 * s.w) l₃) p
-  to-pair =
-      past-window s random m.0 (part (blocks_at s) (4 * s.w) l₂) b.0 (rw (← o.is) lt) ∙ rw (blocks-part, ← o.is)
-
-  module _ (l₄ : List ℕ) (r : ℕ) (x : Reached s random l₃ l₄ r) (lw₄ : length l₄ ≡ s.work) where
-    pub dependent : r < s.k → setup s random ≡ fails Dependent
-    unfolding reduced_pair
-    dependent h = to-pair ∙ rw (← second-part, lt-ltb (end_of s random l₃).cols s.k (rw (← x.cols) h))
-
-    kept : (c n : ℕ) → matrix_size s ≤ c → c + n ≤ generator_at s → part c n l₄ ≡ part c n l₃
-    kept c n h g = part_same c n l₃ l₄ (lw₄ ∙ sym lw) (λ i q. x.tables (c + i) (omega arith) (omega arith))
-
-    first-now : part (first_at s) s.n l₄ ≡ permutation1 s random
-    first-now = kept (first_at s) s.n (omega arith) (omega arith) ∙ holds-part (first_at s) s.n (permutation1 s random) l₃ o.first (length-first s random) (omega (arith, room.run))
-
-    second-now : part (second_at s) (s.n + s.w) l₄ ≡ permutation2 s random p
-    second-now = kept (second_at s) (s.n + s.w) (omega arith) (omega arith) ∙ second-part
-
-    multipliers-now : part (multipliers_at s) s.n l₄ ≡ multipliers s random
-    unfolding multipliers
-    multipliers-now =
-        kept (multipliers_at s) s.n (omega arith) (omega arith)
-        ∙ holds-part (multipliers_at s) s.n (multipliers s random) l₃ multipliers-stand (length-take-le s.n (usable s random) m.0) (omega (arith, room.run))
-
-    blocks-now : part (blocks_at s) (4 * s.w) l₄ ≡ part (blocks_at s) (4 * s.w) l₃
-    blocks-now = kept (blocks_at s) (4 * s.w) (omega arith) (omega arith)
-
-    pub perms-stand : PermsIn s l₄
-    perms-stand =
-        record { first = rw first-now (first-perm s random); second = rw second-now (second-perm s random p) }
-
-    right-now : right_part s l₄ ≡ right_part s (end_of s random l₃).mat
-    unfolding right_part listed
-    right-now =
-        tab-ext (key_elements s) _ _
-        (λ q h. let some : 0 < s.n + s.w - s.k = omega (arith, room.code) in
-        let below : q / (s.n + s.w - s.k) < s.k = (div-lt_iff_lt-mul some).1 h in
-        let col : q % (s.n + s.w - s.k) < s.n + s.w - s.k = mod-lt q some in
-        let at : q / (s.n + s.w - s.k) * (s.n + s.w) + (s.k + q % (s.n + s.w - s.k)) < matrix_size s = omega (arith, row_fits (q / (s.n + s.w - s.k)) s.k (s.n + s.w) below, room.code) in
-        ap (λ (y : ℕ). get_or l₄ y 0) (sym (zero-add _)) ∙ x.matrix _ at)
-
-    -- both keys
-    pub pair : s.k ≤ r → (public private : List ℕ) → Keyed s l₄ public private → setup s random ≡ made public private (p + 1)
-    unfolding reduced_pair
-    pair h public private k =
-        to-pair
-        ∙ rw (← second-part, le-ltb (end_of s random l₃).cols s.k (rw (← x.cols) h), k.public_is, k.private_is, right-now, first-now, second-now, multipliers-now, blocks-now, second-part)
-
--- ---- the reduced matrix is one of elements
-chain-lt : (s : Set) (random A P2 : List ℕ) (i j : ℕ) → chain s random A P2 i j < size ten
-unfolding chain permute_columns multiply_pairs join_columns scale_columns
-chain-lt s random A P2 i j = go (ltb (get_or P2 j 0) (s.n - s.w)) _ _ _ _ _ _ _
+append-small : (w : ℕ) (a b : List ℕ) → Small w a → Small w b → Small w (a ++ b)
+append-small w a b f g i = go (dec_lt i (length a))
   where
-    go : (t : Bool) (a b c d e f x : ℕ) → pick t (pick t (mul ten a b) x) (mul ten c d ⊕ mul ten e f) < size ten
-    go true a b c d e f x = mul-lt ten a b
-    go false a b c d e f x = add-lt (width ten) (mul ten c d) (mul ten e f) (mul-lt ten c d) (mul-lt ten e f)
+    go : Dec (i < length a) → get_or (a ++ b) i 0 < 2 ^ w
+    go (yes h) = rw (get_or-append a b 0 i h) (f i)
+    go (no h) =
+        let e : i ≡ length a + (i - length a) = omega arith in
+        rw (ap (λ (n : ℕ). get_or (a ++ b) n 0) e, get_or-append-add) (g (i - length a))
 
-module _ (s : Set) (random A P2 : List ℕ) (room : Room s) where
-  abbrev end : Done
-  end = eliminated ten s.k (s.n + s.w) s.k (listed s.k (s.n + s.w) (chain s random A P2))
+columns-small : (A : List ℕ) → Small (width ten) (inverse_columns ten A)
+unfolding inverse_columns
+columns-small [] i = omega arith
+columns-small (a ∷ []) i = omega arith
+columns-small (a ∷ b ∷ []) i = omega arith
+columns-small (a ∷ b ∷ c ∷ []) i = omega arith
+columns-small (a ∷ b ∷ c ∷ d ∷ l) zero = mul-lt ten _ _
+columns-small (a ∷ b ∷ c ∷ d ∷ l) (suc zero) = mul-lt ten _ _
+columns-small (a ∷ b ∷ c ∷ d ∷ l) (suc (suc i)) = columns-small l i
 
-  pub chain-matrix : Matrix ten s.k (s.n + s.w) (listed s.k (s.n + s.w) (chain s random A P2))
-  unfolding listed
-  chain-matrix = tab-matrix s.k (s.n + s.w) _ ten (λ p h. chain-lt s random A P2 (p / (s.n + s.w)) (p % (s.n + s.w)))
+inverses-small : (l : List ℕ) → Small (width ten) (inverses ten l)
+unfolding inverses
+inverses-small [] i = omega arith
+inverses-small (x ∷ l) zero = inverse-lt ten x
+inverses-small (x ∷ l) (suc i) = inverses-small l i
 
-  reduced-matrix : Matrix ten s.k (s.n + s.w) end.mat
-  reduced-matrix = end-matrix ten ten-field s.k (s.n + s.w) s.k (omega arith) (omega (arith, room.code)) _ chain-matrix
+length-columns : (A : List ℕ) (w : ℕ) → length A ≡ 4 * w → length (inverse_columns ten A) ≡ 2 * w
+unfolding inverse_columns
+length-columns [] w h = omega arith
+length-columns (a ∷ []) w h = absurd (omega arith)
+length-columns (a ∷ b ∷ []) w h = absurd (omega arith)
+length-columns (a ∷ b ∷ c ∷ []) w h = absurd (omega arith)
+length-columns (a ∷ b ∷ c ∷ d ∷ l) zero h = absurd (omega arith)
+length-columns (a ∷ b ∷ c ∷ d ∷ l) (suc w) h = omega (arith, length-columns l w (omega arith))
 
-  pub reduced-small : Small s.m (right_part s end.mat)
+length-right : (s : Set) (l : List ℕ) → length (right_part s l) ≡ key_elements s
+unfolding right_part listed
+length-right s l = length-tab (key_elements s) _
+
+module _ (s : Set) (v : Valid s) (field : s.m ≡ width ten) (random A P2 m : List ℕ) (is : m ≡ (reduction s random A P2).mat) where
+  right-small : Small s.m (right_part s m)
   unfolding right_part listed
-  reduced-small = small-as (width ten) s.m (right_part s end.mat) (sym room.bits) (λ i. go i (dec_lt i (key_elements s)))
+  right-small = rw is (small-as (width ten) s.m (right_part s (reduction s random A P2).mat) (sym field) (λ i. go i (dec_lt i (key_elements s))))
     where
-      go : (i : ℕ) → Dec (i < key_elements s) → get_or (right_part s end.mat) i 0 < size ten
+      reduced : Matrix ten s.k (s.n + s.w) (reduction s random A P2).mat
+      reduced = end-matrix ten ten-field s.k (s.n + s.w) s.k (omega arith) (omega (arith, v.room)) _ (chain_matrix s random A P2 _ refl)
+
+      go : (i : ℕ) → Dec (i < key_elements s) → get_or (right_part s (reduction s random A P2).mat) i 0 < size ten
       go i (yes h) =
-          let some : 0 < s.n + s.w - s.k = omega (arith, room.code) in
+          let some : 0 < s.n + s.w - s.k = omega (arith, v.some_w, v.room) in
           rw (get_or-tab (key_elements s) _ i h)
-          (reduced-matrix.small (i / (s.n + s.w - s.k)) (s.k + i % (s.n + s.w - s.k)) ((div-lt_iff_lt-mul some).1 h) (omega (arith, mod-lt i some)))
+          (reduced.small (i / (s.n + s.w - s.k)) (s.k + i % (s.n + s.w - s.k)) ((div-lt_iff_lt-mul some).1 h) (omega (arith, mod-lt i some)))
       go i (no h) =
-          let past : length (right_part s end.mat) ≤ i = omega (arith, length-right s end.mat) in
-          let z : get_or (right_part s end.mat) i 0 ≡ 0 = get_or-eq_default (right_part s end.mat) 0 past in
+          let past : length (right_part s (reduction s random A P2).mat) ≤ i = omega (arith, length-right s (reduction s random A P2).mat) in
+          let z : get_or (right_part s (reduction s random A P2).mat) i 0 ≡ 0 = get_or-eq_default (right_part s (reduction s random A P2).mat) 0 past in
           omega arith
 
--- ---- the ways out of `make`, and what each stage asks
-module _ (s : Set) (random public private work : List ℕ) (g : Given s random public private work) where
-  pub given-room : Room s
-  given-room = room s g.valid g.field
+  module _ (V run : List ℕ) (run-is : run ≡ inverse_columns ten A ++ (inverses ten V ++ right_part s m)) where
+    pub run_small : Small s.m run
+    run_small =
+        rw run-is
+        (append-small s.m (inverse_columns ten A) (inverses ten V ++ right_part s m) (small-as (width ten) s.m (inverse_columns ten A) (sym field) (columns-small A))
+        (append-small s.m (inverses ten V) (right_part s m) (small-as (width ten) s.m (inverses ten V) (sym field) (inverses-small V)) right-small))
 
-  module _ (l₁ : List ℕ) (r₁ : Bool) (k₁ : length l₁ ≡ length work) (m : Multiplied s random l₁ r₁) where
-    long₁ : length l₁ ≡ s.work
-    long₁ = k₁ ∙ g.long_work
+    module _ (la : length A ≡ 4 * s.w) (lv : length V ≡ s.n) where
+      pub run_end : take (length run - (2 * s.w + s.n)) (drop (2 * s.w + s.n) run) ≡ right_part s m
+      run_end =
+          let two : length (inverse_columns ten A ++ inverses ten V) ≡ 2 * s.w + s.n = rw length-append (omega (arith, length-columns A s.w la, length-inverses ten V)) in
+          let split : run ≡ (inverse_columns ten A ++ inverses ten V) ++ right_part s m = run-is ∙ sym (append_assoc (inverse_columns ten A) (inverses ten V) (right_part s m)) in
+          let end : drop (2 * s.w + s.n) run ≡ right_part s m = rw split (drop_at (inverse_columns ten A ++ inverses ten V) (right_part s m) (2 * s.w + s.n) two) in
+          let long : length run - (2 * s.w + s.n) ≡ length (right_part s m) = (let all : length run ≡ 2 * s.w + s.n + length (right_part s m) = ap length split ∙ rw length-append (omega (arith, two)) in omega arith) in
+          rw (end, long) (take-length (right_part s m))
 
-    pub make-few-multipliers : not r₁ ≡ true → setup s random ≡ fails FewMultipliers
-    make-few-multipliers t = few-multipliers s random (rw (not-true r₁ t) at m)
+      pub end_small : Small s.m (take (length run - (2 * s.w + s.n)) (drop (2 * s.w + s.n) run))
+      end_small = rw run_end right-small
 
-    pub blocks-ready : Room s × (length random ≡ s.random) × (length l₁ ≡ s.work)
-    blocks-ready = (given-room, g.long_random, long₁)
-
-    module _ (t₁ : not r₁ ≡ false) (l₂ : List ℕ) (r₂ : Bool) (k₂ : length l₂ ≡ length l₁) (b : Blocked s random l₁ l₂ r₂) where
-      long₂ : length l₂ ≡ s.work
-      long₂ = k₂ ∙ long₁
-
-      there : Multiplied s random l₁ true
-      there = rw (not-false r₁ t₁) at m
-
-      pub make-few-elements : not r₂ ≡ true → setup s random ≡ fails FewElements
-      make-few-elements t = few-elements s random there.0 (rw (not-true r₂ t) at b)
-
-      pub orders-ready : Room s × (length random ≡ s.random) × (length l₂ ≡ s.work)
-      orders-ready = (given-room, g.long_random, long₂)
-
-      module _ (t₂ : not r₂ ≡ false) (l₃ : List ℕ) (p : ℕ) (k₃ : length l₃ ≡ length l₂) (o : Ordered s random l₂ l₃ p) where
-        long₃ : length l₃ ≡ s.work
-        long₃ = k₃ ∙ long₂
-
-        stand : Blocked s random l₁ l₂ true
-        stand = rw (not-false r₂ t₂) at b
-
-        pub make-no-window : p ≡ 5 → setup s random ≡ fails NoWindow
-        make-no-window e = no-window s random there.0 (part (blocks_at s) (4 * s.w) l₂) stand.0 (omega (arith, o.is))
-
-        module _ (t₃ : p ≡ 5 → ⊥) where
-          lt : p < 5
-          lt = lt_of_le-ne o.most t₃
-
-          pub matrix-asks : Room s × (length random ≡ s.random) × (length l₃ ≡ s.work) × Tables s random l₃
-          matrix-asks = (given-room, g.long_random, long₃, tables-stand s random l₁ l₂ l₃ p given-room long₃ there stand o lt long₂)
-
-          module _ (l₄ : List ℕ) (r : ℕ) (k₄ : length l₄ ≡ length l₃) (x : Reached s random l₃ l₄ r) where
-            long₄ : length l₄ ≡ s.work
-            long₄ = k₄ ∙ long₃
-
-            pub make-dependent : r < s.k → setup s random ≡ fails Dependent
-            make-dependent h = dependent s random l₁ l₂ l₃ p given-room long₃ there stand o lt long₂ l₄ r x long₄ h
-
-            pub keys-ready : Room s × (s.byte < 256) × (length l₄ ≡ s.work) × (length public ≡ s.public) × (length private ≡ s.private) × PermsIn s l₄ × Small s.m (right_part s l₄)
-            keys-ready =
-                (given-room, g.byte, long₄, g.long_public, g.long_private, perms-stand s random l₁ l₂ l₃ p given-room long₃ there stand o lt long₂ l₄ r x long₄, rw (right-now s random l₁ l₂ l₃ p given-room long₃ there stand o lt long₂ l₄ r x long₄) (reduced-small s random (part (blocks_at s) (4 * s.w) l₃) (part (second_at s) (s.n + s.w) l₃) given-room))
-
-            pub make-pair : s.k ≤ r → (public' private' : List ℕ) → Keyed s l₄ public' private' → setup s random ≡ made public' private' (p + 1)
-            make-pair h public' private' k = pair s random l₁ l₂ l₃ p given-room long₃ there stand o lt long₂ l₄ r x long₄ h public' private' k
+-- there is room for both lists in the matrix
+pub lists_fit : (k u : ℕ) → 0 < k → u ≤ k * u
+lists_fit k u h = omega (arith, mul-le-mul_right {m = 1} {n = k} u h)

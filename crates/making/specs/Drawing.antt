@@ -1,27 +1,20 @@
--- 01, Key setup: elements of the random bytes, and the non-zero ones among them.
-use Rattle.std.specs.Prelude.{◌≡◌, List, ℕ, ◌+◌, ◌*◌, ◌≤◌, ◌<◌, eqb, length, get_or, set}
-use Rattle.lists.specs.Loops.{pick, tab}
-use Rattle.lists.specs.Parts.{Wrote}
-use Rattle.bits.specs.Bits.{bits_at}
+-- What is read from the random bytes.
+use Rattle.std.specs.Prelude.{List, ℕ, ◌+◌, ◌-◌, ◌*◌, take, drop}
+use Rattle.bits.specs.Bits.{bytes_for}
+use Rattle.sets.specs.declared.Set.{Set}
+use Rattle.sets.specs.Valid.{setup_elements}
 use Rattle.scheme.specs.Lists.{non_zero}
+use Rattle.scheme.specs.Setup.{drawn}
 
--- element number `from + i` of the bytes
-abbrev pub element_from : ℕ → List ℕ → ℕ → ℕ → ℕ
-element_from m bytes from i = bits_at m bytes (m * (from + i))
+-- the non-zero ones of `count` elements from number `from` on
+abbrev pub non_zero_among : Set → List ℕ → ℕ → ℕ → List ℕ
+non_zero_among s random from count = non_zero (take count (drop from (drawn s random)))
 
--- the non-zero ones of n elements
-abbrev pub non_zero_from : ℕ → List ℕ → ℕ → ℕ → List ℕ
-non_zero_from m bytes from n = non_zero (tab n (element_from m bytes from))
+-- the n - 1 numbers of the first permutation, two bytes each, behind the elements
+abbrev pub shuffling_first : Set → List ℕ → List ℕ
+shuffling_first s random = take (2 * (s.n - 1)) (drop (bytes_for s.m (setup_elements s)) random)
 
--- x is stored behind the c numbers that stand from `at` on, unless it is zero; r numbers stand there then
-pub record Keeps (at c x : ℕ) (l l' : List ℕ) (r : ℕ) : Type 0 where
-  pub count : r ≡ c + pick (eqb x 0) 0 1
-  pub most : r ≤ c + 1
-  pub list : l' ≡ pick (eqb x 0) l (set l (at + c) x)
-
--- r numbers of x, all of them or as many as there is room for, stand from `at` on
-pub record Collected (x : List ℕ) (room at : ℕ) (l l' : List ℕ) (r : ℕ) : Type 0 where
-  pub within : r ≤ room
-  pub there : r ≤ length x
-  pub all : r < room → length x ≡ r
-  pub wrote : Wrote at r (λ i. get_or x i 0) l l'
+-- the n + w - 1 numbers of the second permutation in window p
+abbrev pub shuffling_second : Set → List ℕ → ℕ → List ℕ
+shuffling_second s random p =
+    take (2 * (s.n + s.w - 1)) (drop (bytes_for s.m (setup_elements s) + (2 * s.n - 2 + p)) random)

@@ -1,8 +1,7 @@
--- What the contracts of setup cite: the work area, and what each stage leaves.
-pub mod Area
+-- What the contracts of setup cite.
 pub mod Drawing
 pub mod Blocks
-pub mod Orders
+pub mod Sizes
 pub mod Filling
-pub mod Keys
+pub mod Entered
 pub mod Stages

@@ -1,70 +1,41 @@
 // The two permutations, and the first window of the second that mixes few of the first k columns.
-ghost use Rattle.std.specs.Prelude.{◌≡◌, ◌+◌, ◌-◌, ◌*◌, ◌≤◌, ◌<◌, leb, length, get_or, drop};
-ghost use Rattle.lists.specs.Loops.{pick};
-ghost use Rattle.lists.specs.Parts.{Wrote};
-ghost use Rattle.perm.specs.Shuffle.{shuffled};
-ghost use Rattle.sets.specs.declared.Set.{Set};
-ghost use Rattle.scheme.specs.Setup.{mixed_below};
-ghost use Rattle.making.specs.Area.{Room};
-ghost use Rattle.making.specs.Orders.{Tried, Windowed};
+ghost use Rattle.std.specs.Prelude.{◌≡◌, ◌+◌, ◌-◌, ◌≤◌, ◌<◌, length, take, count_by, nat_le, IfOk, IfErr, OnErr};
+ghost use Rattle.scheme.specs.Setup.{permutation1, permutation2, window};
 
-use super::area::{drawn_end, second_at};
-use sets::Set;
+use crate::random::Random;
+use scheme::Refusal;
 
-// The shuffle of 0, 1, .., u - 1 by the u - 1 numbers from byte `at` on, stored from `to` on.
-pub fn draw(random: &[u8], at: usize, work: &mut [u16], to: usize, u: usize)
-    requires { (0 < u) × (u ≤ 65536) × (at + 2 * (u - 1) ≤ length random.now) × (to + u ≤ length work.old) }
-    ensures { Wrote to u (λ i. get_or (shuffled (drop at random.now) u (u - 1)) i 0) work.old work.new }
+/// The first permutation.
+pub fn draw_first(random: &Random, order: &mut [u16])
+    requires { length order.old ≡ random.now.parameters.set.n }
+    ensures { order.new ≡ permutation1 random.now.parameters.set random.now.bytes.now }
 {
-    let last = at + 2 * (u - 1);
-    let end = to + u;
-    perm::shuffle(&random[at..last], &mut work[to..end]);
+    perm::shuffle(random.for_first(), order);
 }
 
-// 1 where x is d or more
-fn one_from(d: usize, x: usize) -> usize
-    ensures { (result ≡ pick (leb d x) 1 0) × (result ≤ 1) }
+/// How many of the first k are d or more.
+fn mixed_below(order: &[u16], d: usize, k: usize) -> usize
+    requires { k ≤ length order.now }
+    ensures { result ≡ count_by (λ x. nat_le d x) (take k order.now) }
 {
-    if d <= x { 1 } else { 0 }
+    order[..k].iter().filter(|x| d <= usize::from(**x)).count()
 }
 
-// How many of the first k are d or more.
-fn mixed_below(p: &[u16], d: usize, k: usize) -> usize
-    requires { k ≤ length p.now }
-    ensures { result ≡ mixed_below d k p.now }
+/// The second permutation from the first window that mixes at most u0 of the first k columns, and that window's number.
+pub fn draw_second(random: &Random, order: &mut [u16]) -> Result<usize, Refusal>
+    requires { length order.old ≡ random.now.parameters.set.n + random.now.parameters.set.w }
+    ensures first { IfOk result (λ p. window random.now.parameters.set random.now.bytes.now ≡ p) }
+    ensures within { IfOk result (λ p. p < 5) }
+    ensures order { IfOk result (λ p. order.new ≡ permutation2 random.now.parameters.set random.now.bytes.now p) }
+    ensures none { OnErr result (window random.now.parameters.set random.now.bytes.now ≡ 5) }
+    ensures refusal { IfErr result (λ e. e ≡ Refusal.NoWindow) }
 {
-    let mut u = 0;
-    let mut i = 0;
-    while i < k {
-        u += one_from(d, p[i] as usize);
-        i += 1;
-    }
-    u
-}
-
-// Draws P2 from window p, and answers whether it mixes at most u0 of the first k columns.
-fn try_window(s: Set, random: &[u8], p: usize, work: &mut [u16]) -> bool
-    requires { Room s × (p < 5) × (length random.now ≡ s.random) × (length work.old ≡ s.work) }
-    ensures { Tried s random.now p work.old work.new result }
-{
-    let at = second_at(s);
-    let u = s.n + s.w;
-    let end = at + u;
-    draw(random, drawn_end(s) + (2 * s.n - 2 + p), work, at, u);
-    mixed_below(&work[at..end], s.n - s.w, s.k) <= s.u0
-}
-
-// P2 from the first window that fits; answers its number, or 5 where none does.
-pub fn window(s: Set, random: &[u8], work: &mut [u16]) -> usize
-    requires { Room s × (length random.now ≡ s.random) × (length work.old ≡ s.work) }
-    ensures { Windowed s random.now work.old work.new result }
-{
-    let mut p = 0;
-    while p < 5 {
-        if try_window(s, random, p, work) {
-            return p;
+    let set = random.parameters.set;
+    for p in 0..5 {
+        perm::shuffle(random.for_second(p), order);
+        if mixed_below(order, set.n - set.w, set.k) <= set.u0 {
+            return Ok(p);
         }
-        p += 1;
     }
-    5
+    Err(Refusal::NoWindow)
 }

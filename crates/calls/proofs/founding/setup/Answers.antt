@@ -1,6 +1,6 @@
 -- Each first check is a case of the definition.
 use Rattle.calls.proofs.Rows.{no_set, the_set, set_serves}
-use Rattle.calls.proofs.SetupLaws.{unknown-set, wrong-length, given, checked}
+use Rattle.calls.proofs.SetupLaws.{unknown-set, wrong-length, checked}
 use Rattle.calls.proofs.founding.setup.Goals as goal
 
 pub returns-in_default : goal.returns-in_default
@@ -9,8 +9,11 @@ returns-in_default c = search (unknown-set, no_set)
 pub returns-then-not-right_lengths : goal.returns-then-not-right_lengths
 returns-then-not-right_lengths c = search (wrong-length, the_set)
 
-pub setup_checked-requires : goal.setup_checked-requires
-setup_checked-requires c = search (given, set_serves)
+pub setup_checked-requires-clause-field : goal.setup_checked-requires-clause-field
+setup_checked-requires-clause-field c = (set_serves c.args.byte c.find.result c.find.ensures.named c.in-Some.parameters c.in-Some.is).field
+
+pub setup_checked-requires-clause-byte : goal.setup_checked-requires-clause-byte
+setup_checked-requires-clause-byte c = (set_serves c.args.byte c.find.result c.find.ensures.named c.in-Some.parameters c.in-Some.is).byte
 
 pub returns : goal.returns
 returns c = search (checked, the_set)

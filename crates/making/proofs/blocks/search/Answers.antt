@@ -1,15 +1,15 @@
-use Rattle.std.proofs.Common.{rules, arith}
-use Rattle.making.proofs.Searching.{search-fails, search-skip, search-take, search-found}
+use Rattle.std.proofs.Common.{◌∙◌, ◌*◌, ◌+◌, arith}
+use Rattle.making.proofs.Lists.{take_put}
+use Rattle.making.proofs.Searching.{searching_fails, searching_more, searching_end}
 use Rattle.making.proofs.blocks.search.Goals as goal
 
-pub returns-then-count-j : goal.returns-then-count-j
-returns-then-count-j c = search search-fails
-
-pub loop-i-preserved-then-det-eq0 : goal.loop-i-preserved-then-det-eq0
-loop-i-preserved-then-det-eq0 c = (search rules, search rules, search-skip _ _ _ _ _ _ _ _ c.loop-i.invariant.2 (omega arith) (omega arith) (omega arith) _ _ c.block_at-b.ensures c.det.ensures (omega arith) c.if-det-eq0.true)
+pub returns-in_default-clause-none : goal.returns-in_default-clause-none
+returns-in_default-clause-none c = searching_fails _ _ _ _ _ c.loop-i.invariant c.loop-i-test.true c.in_default.ensures.none
 
 pub loop-i-preserved : goal.loop-i-preserved
-loop-i-preserved c = (search rules, search rules, search-take _ _ _ _ _ _ _ _ c.loop-i.invariant.2 (omega arith) (omega arith) (omega arith) _ _ c.block_at-b.ensures c.det.ensures (omega arith) c.if-det-eq0.false _ c.put_block.ensures)
+loop-i-preserved c =
+    searching_more _ _ _ c.loop-i.blocks _ c.loop-i.invariant c.loop-i-test.true c.in-Some.block c.in-Some.after.now _ c.in-Some.ensures.found
+    (take_put (4 * c.loop-i.i) 4 (4 * (c.loop-i.i + 1)) c.store.new.run c.loop-i.blocks _ (omega arith) (rw c.store.ensures) (omega arith) ∙ rw c.store.ensures)
 
-pub returns : goal.returns
-returns c = search search-found
+pub returns-clause-found : goal.returns-clause-found
+returns-clause-found c = searching_end _ _ _ _ _ c.loop-i.invariant (omega arith) (omega arith)
