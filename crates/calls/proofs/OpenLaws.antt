@@ -9,14 +9,14 @@ use lib.Dec.{eqb}
 use lib.ListN.{length, get_or, take}
 use borrow.Author.Tests.{eq-eqb, ne_eqb, le-leb, lt-leb, eqb-true, not-true, not-false}
 use Rattle.sets.specs.declared.Set.{Set}
-use Rattle.std.specs.Prelude.{Some, None, Ok, Err}
+use Rattle.std.specs.Prelude.{Some, None, Result, Ok, Err}
 use Rattle.sets.specs.Table.{set_of}
 use Rattle.scheme.specs.Answers.{Opened as Disclosed}
 use Rattle.scheme.specs.declared.Refusal.TheVariants.{UnknownSet, WrongLength, WrongSecret, NotOpened, Malformed as AnswerMalformed, Singular as AnswerSingular}
 use Rattle.scheme.specs.Opening.{Opens}
 use Rattle.scheme.specs.Calls.{zeroed, open_lengths, Opening, GivesSecret, OpenOf, OpenEnds, UnwrapOf, UnwrapEnds}
-use Rattle.opening.specs.declared.Opened.{Opened}
-use Rattle.opening.specs.declared.Opened.TheVariants.{Message, Malformed, Singular, Not}
+use Rattle.opening.specs.declared.Failure.{Failure}
+use Rattle.opening.specs.declared.Failure.TheVariants as F
 use Rattle.opening.specs.Ending.{OpenGiven, OpensAs}
 use Rattle.calls.specs.Given.{Serves, OpenServes, DiscloseGiven}
 use Rattle.calls.specs.Ends.{OpenedWiped, Withheld, HandedOut}
@@ -46,55 +46,55 @@ pub handed : (message secret secret' : List ℕ) → length secret ≤ length me
     → secret' ≡ take (length secret - 0) message → HandedOut message secret (Ok tt) secret'
 handed message secret secret' h q = record { answer = refl; first = q ∙ ap (λ (n : ℕ). take n message) (sub-zero (length secret)) }
 
-module _ (s : Set) (key cipher work : List ℕ) (r : Opened) (msg work₁ : List ℕ) where
+module _ (s : Set) (key cipher work : List ℕ) (r : Result Unit Failure) (msg work₁ : List ℕ) where
   pub opened-wiped : OpensAs s key cipher r msg → (work₂ : List ℕ) → work₁ ≡ zeroed work₂ → length work₂ ≡ length work → OpenedWiped s key cipher work r msg work₁
   opened-wiped o work₂ z e = record { opens = o; wiped = z ∙ zeroed-as work work₂ e }
 
   module _ (w : OpenedWiped s key cipher work r msg work₁) where
     -- the refusals, whatever the output is
     module _ (Gives : List ℕ → Type 0) (out out₁ : List ℕ) (same : length out₁ ≡ length out) (b : Disclosed) (out₂ : List ℕ) where
-      pub is-malformed : r ≡ Malformed → Withheld AnswerMalformed b out₁ out₂ → Opening s key cipher Gives out work b out₂ work₁
+      pub is-malformed : r ≡ Err F.Malformed → Withheld AnswerMalformed b out₁ out₂ → Opening s key cipher Gives out work b out₂ work₁
       is-malformed e f =
-          let o : OpensAs s key cipher Malformed msg = rw e at w.opens in
+          let o : OpensAs s key cipher (Err F.Malformed) msg = rw e at w.opens in
           record { case = rw f.answer (o, f.nothing ∙ zeroed-as out out₁ same); wiped = w.wiped }
 
-      pub is-singular : r ≡ Singular → Withheld AnswerSingular b out₁ out₂ → Opening s key cipher Gives out work b out₂ work₁
+      pub is-singular : r ≡ Err F.Singular → Withheld AnswerSingular b out₁ out₂ → Opening s key cipher Gives out work b out₂ work₁
       is-singular e f =
-          let o : OpensAs s key cipher Singular msg = rw e at w.opens in
+          let o : OpensAs s key cipher (Err F.Singular) msg = rw e at w.opens in
           record { case = rw f.answer ((o.0, o.1), f.nothing ∙ zeroed-as out out₁ same); wiped = w.wiped }
 
-      not_opened : ((l : List ℕ) → Gives l → (m : List ℕ) × Opens s key cipher m) → r ≡ Not → Withheld NotOpened b out₁ out₂ → Opening s key cipher Gives out work b out₂ work₁
+      not_opened : ((l : List ℕ) → Gives l → (m : List ℕ) × Opens s key cipher m) → r ≡ Err F.NotOpened → Withheld NotOpened b out₁ out₂ → Opening s key cipher Gives out work b out₂ work₁
       not_opened t e f =
-          let o : OpensAs s key cipher Not msg = rw e at w.opens in
+          let o : OpensAs s key cipher (Err F.NotOpened) msg = rw e at w.opens in
           record {
             case = rw f.answer ((o.0, o.1, λ l g. o.2 (t l g).0 (t l g).1), f.nothing ∙ zeroed-as out out₁ same);
             wiped = w.wiped;
           }
 
-    pub is-message : (out : List ℕ) → r ≡ Message → Opening s key cipher (Opens s key cipher) out work (Ok tt) msg work₁
+    pub is-message : (out : List ℕ) → r ≡ Ok tt → Opening s key cipher (Opens s key cipher) out work (Ok tt) msg work₁
     is-message out e =
-        let o : OpensAs s key cipher Message msg = rw e at w.opens in
+        let o : OpensAs s key cipher (Ok tt) msg = rw e at w.opens in
         record { case = (o.0, o.1, o.2); wiped = w.wiped }
 
-    pub is-not : (out : List ℕ) → length msg ≡ length out → (b : Disclosed) (out₂ : List ℕ) → r ≡ Not → Withheld NotOpened b msg out₂ → Opening s key cipher (Opens s key cipher) out work b out₂ work₁
+    pub is-not : (out : List ℕ) → length msg ≡ length out → (b : Disclosed) (out₂ : List ℕ) → r ≡ Err F.NotOpened → Withheld NotOpened b msg out₂ → Opening s key cipher (Opens s key cipher) out work b out₂ work₁
     is-not out same b out₂ e f = not_opened (Opens s key cipher) out msg same b out₂ (λ l g. (l, g)) e f
 
     module _ (secret : List ℕ) (b : Disclosed) (secret₂ : List ℕ) where
       abbrev Gives : List ℕ → Type 0
       Gives = GivesSecret s key cipher (length secret)
 
-      pub secret-message : r ≡ Message → HandedOut msg secret b secret₂ → Opening s key cipher (GivesSecret s key cipher (length secret)) secret work b secret₂ work₁
+      pub secret-message : r ≡ Ok tt → HandedOut msg secret b secret₂ → Opening s key cipher (GivesSecret s key cipher (length secret)) secret work b secret₂ work₁
       secret-message e f =
-          let o : OpensAs s key cipher Message msg = rw e at w.opens in
+          let o : OpensAs s key cipher (Ok tt) msg = rw e at w.opens in
           record { case = rw f.answer (o.0, o.1, (msg, o.2, f.first)); wiped = w.wiped }
 
-      pub secret-malformed : r ≡ Malformed → Withheld AnswerMalformed b secret secret₂ → Opening s key cipher (GivesSecret s key cipher (length secret)) secret work b secret₂ work₁
+      pub secret-malformed : r ≡ Err F.Malformed → Withheld AnswerMalformed b secret secret₂ → Opening s key cipher (GivesSecret s key cipher (length secret)) secret work b secret₂ work₁
       secret-malformed e f = is-malformed Gives secret secret refl b secret₂ e f
 
-      pub secret-singular : r ≡ Singular → Withheld AnswerSingular b secret secret₂ → Opening s key cipher (GivesSecret s key cipher (length secret)) secret work b secret₂ work₁
+      pub secret-singular : r ≡ Err F.Singular → Withheld AnswerSingular b secret secret₂ → Opening s key cipher (GivesSecret s key cipher (length secret)) secret work b secret₂ work₁
       secret-singular e f = is-singular Gives secret secret refl b secret₂ e f
 
-      pub secret-not : r ≡ Not → Withheld NotOpened b secret secret₂ → Opening s key cipher (GivesSecret s key cipher (length secret)) secret work b secret₂ work₁
+      pub secret-not : r ≡ Err F.NotOpened → Withheld NotOpened b secret secret₂ → Opening s key cipher (GivesSecret s key cipher (length secret)) secret work b secret₂ work₁
       secret-not e f = not_opened Gives secret secret refl b secret₂ (λ l g. (g.0, g.1)) e f
 
 -- ---- the lengths of a known set

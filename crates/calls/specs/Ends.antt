@@ -1,10 +1,10 @@
 -- What the calls end with, as the definitions of the crate `scheme` have it; and what the functions behind the first checks leave.
-use Rattle.std.specs.Prelude.{◌≡◌, List, ℕ, length, take, Ok, Err}
+use Rattle.std.specs.Prelude.{◌≡◌, List, ℕ, length, take, Result, Ok, Err}
 use Rattle.sets.specs.declared.Set.{Set}
 use Rattle.scheme.specs.declared.Refusal.{Refusal}
 use Rattle.scheme.specs.Answers.{Answer, Opened as Disclosed}
 use Rattle.scheme.specs.Calls.{zeroed, SetupEnd, SealEnd}
-use Rattle.opening.specs.declared.Opened.{Opened}
+use Rattle.opening.specs.declared.Failure.{Failure}
 use Rattle.opening.specs.Ending.{OpensAs}
 
 -- an answer, with what the lent buffers hold
@@ -15,7 +15,7 @@ abbrev pub seal_end : Answer → List ℕ → List ℕ → SealEnd
 seal_end answer cipher work = record { answer = answer; cipher = cipher; work = work }
 
 -- what opening gives, and the work area is zero
-pub record OpenedWiped (s : Set) (key cipher work : List ℕ) (r : Opened) (message work' : List ℕ) : Type 0 where
+pub record OpenedWiped (s : Set) (key cipher work : List ℕ) (r : Result Unit Failure) (message work' : List ℕ) : Type 0 where
   pub opens : OpensAs s key cipher r message
   pub wiped : work' ≡ zeroed work
 

@@ -8,9 +8,10 @@ ghost use Rattle.calls.specs.Ends.{OpenedWiped, Withheld, HandedOut};
 
 use crate::space::room;
 use lists::{wipe_bytes, wipe_numbers};
-use opening::Opened;
+use opening::Failure;
+use opening::key::PrivateKey;
 use scheme::Refusal;
-use sets::Set;
+use sets::{ParameterSet, Set};
 
 /// Whether the lengths are those of the set.
 fn right_lengths(s: Set, key: usize, cipher: usize, work: usize) -> bool
@@ -20,11 +21,22 @@ fn right_lengths(s: Set, key: usize, cipher: usize, work: usize) -> bool
 }
 
 // A message or a refusal, after which nothing is left in the work area.
-fn open_wiped(s: Set, key: &[u8], cipher: &[u8], message: &mut [u8], work: &mut [u16]) -> Opened
+fn open_wiped(
+    s: Set,
+    key: &[u8],
+    cipher: &[u8],
+    message: &mut [u8],
+    work: &mut [u16],
+) -> Result<(), Failure>
     requires { OpenGiven s key.now cipher.now message.old work.old }
     ensures { OpenedWiped s key.now cipher.now work.old result message.new work.new }
 {
-    let opened = opening::open(s, key, cipher, message, work);
+    let parameters = ParameterSet { set: s };
+    let key = PrivateKey {
+        parameters,
+        bytes: key,
+    };
+    let opened = opening::open(&key, cipher, message, work);
     wipe_numbers(work);
     opened
 }
@@ -50,10 +62,10 @@ fn open_checked(
 {
     let opened = open_wiped(s, key, cipher, message, work);
     match opened {
-        Opened::Message => Ok(()),
-        Opened::Malformed => withhold(Refusal::Malformed, message),
-        Opened::Singular => withhold(Refusal::Singular, message),
-        Opened::Not => withhold(Refusal::NotOpened, message),
+        Ok(()) => Ok(()),
+        Err(Failure::Malformed) => withhold(Refusal::Malformed, message),
+        Err(Failure::Singular) => withhold(Refusal::Singular, message),
+        Err(Failure::NotOpened) => withhold(Refusal::NotOpened, message),
     }
 }
 
@@ -119,10 +131,10 @@ fn unwrap_in(
 {
     let opened = open_wiped(s, key, cipher, message, work);
     match opened {
-        Opened::Message => hand_out(message, secret),
-        Opened::Malformed => withhold(Refusal::Malformed, secret),
-        Opened::Singular => withhold(Refusal::Singular, secret),
-        Opened::Not => withhold(Refusal::NotOpened, secret),
+        Ok(()) => hand_out(message, secret),
+        Err(Failure::Malformed) => withhold(Refusal::Malformed, secret),
+        Err(Failure::Singular) => withhold(Refusal::Singular, secret),
+        Err(Failure::NotOpened) => withhold(Refusal::NotOpened, secret),
     }
 }
 

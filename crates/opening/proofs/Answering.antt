@@ -1,135 +1,145 @@
--- What opening answers after each of its stages.
-use mathlib.Core.Path.{◌≡◌, refl, sym, ◌∙◌}
+-- What opening answers after each of its stages, with a key that is prepared.
+use mathlib.Core.Path.{◌≡◌, sym, subst, ◌∙◌}
 use mathlib.Core.Bool.{Bool, true, false, false≢true}
 use mathlib.Core.List.{List}
-use Prim.Native.Nat.{ℕ, ◌+◌, ◌-◌}
+use Prim.Native.Nat.{ℕ, ◌+◌, ◌-◌, ◌^◌, ◌≤◌, ◌<◌}
 use native.Mathlib.Omega.{arith}
+use native.Mathlib.Decide.{dec_lt}
+use lib.ListN.{length, get_or, take, get_or-eq_default}
+use Rattle.std.specs.Prelude.{⊤, Result, Ok, Err, OnOk, IfErr, IsErr}
+use Rattle.gf.specs.Field.{width, size}
 use Rattle.gf.specs.Ten.{ten}
-use Rattle.gf.proofs.Ten.{ten-field}
-use Rattle.bits.specs.Bits.{elements, tail_zero}
+use Rattle.bits.specs.Bits.{elements, elements_in, tail_zero, Small}
+use Rattle.bits.specs.Numbers.{bytes16}
+use Rattle.bits.proofs.Packing.{elements_in-bytes_for}
 use Rattle.code.specs.Decoding.{Near}
-use Rattle.std.specs.Prelude.{Result, Ok, Err}
-use Rattle.code.specs.declared.Undecodable.{Undecodable}
 use Rattle.code.proofs.Distance.{near-once}
 use Rattle.sets.specs.declared.Set.{Set}
+use Rattle.sets.specs.Valid.{Valid}
+use Rattle.scheme.specs.Field.{field_of}
+use Rattle.scheme.specs.Padding.{message_of}
 use Rattle.scheme.specs.Keys.{Private, WellFormed, read}
-use Rattle.scheme.specs.Opening.{Vector, Opens}
+use Rattle.scheme.specs.Sealing.{encoded}
+use Rattle.scheme.specs.Opening.{Vector, Opens, undone, error_places, repadded}
 use Rattle.scheme.specs.Opening as Opening
-use Rattle.padding.specs.declared.WrongCheck.{WrongCheck}
-use Rattle.opening.specs.declared.Opened.TheVariants.{Message, Not}
-use Rattle.opening.specs.declared.prepare.Prepared.{Prepared}
-use Rattle.opening.specs.declared.prepare.Prepared.TheVariants.{Malformed, Singular, Ready}
-use Rattle.opening.specs.Area.{decoding_at, vector_at}
-use Rattle.opening.specs.Stages.{Same, Working, code_in, vector_in, Found, Prepares}
-use Rattle.opening.specs.Receiving.{undone_of, NearIn, Decodes}
-use Rattle.opening.specs.Tailed.{Tailed}
-use Rattle.opening.specs.Ending.{Accepted, Finishes, OpensAs}
-use Rattle.opening.proofs.Working.{working-same, same-less}
-use Rattle.opening.proofs.Once.{apart-turn, near, vector-one}
+use Rattle.tie.proofs.Bridge.{field}
+use Rattle.opening.specs.Given.{KeyGiven}
+use Rattle.opening.specs.Ending.{Accepted, KeyFails, OpenFails, OpensAs}
+use Rattle.opening.specs.declared.Failure.{Failure}
+use Rattle.opening.specs.declared.Failure.TheVariants.{Malformed, Singular, NotOpened}
+use Rattle.opening.specs.declared.prepare.PreparedKey.{PreparedKey}
+use Rattle.opening.proofs.Keyed.{given}
+use Rattle.opening.proofs.Permuting.{formed_of}
 use Rattle.opening.proofs.Regular.{regular}
+use Rattle.opening.proofs.Once.{apart-turn, near, points, vector-one}
+use Rattle.opening.proofs.Solved.{encoded-low, encoded-lt}
 
--- what was found is what the end goes by
-pub found-tailed : (s : Set) (key c l : List ℕ) → Found s key c l → Tailed s key l
-found-tailed s key c l F = record { small = F.vector.small; tail = F.tail }
+-- the ciphertext holds n + w elements
+pub cipher_elements : (s : Set) (cipher : List ℕ) → Valid s → length cipher ≡ s.cipher → elements_in s.m (length cipher) ≡ s.n + s.w
+cipher_elements s cipher ok e = rw (e, ok.cipher_is) (elements_in-bytes_for s.m (s.n + s.w) ok.narrow)
 
-pub working-after : (s : Set) (key l l' : List ℕ) (u : ℕ) → Working s key l u → Same (vector_at s) l l' → Working s key l' u
-working-after s key l l' u Q e = working-same s key l l' u Q (same-less (decoding_at s) (vector_at s) l l' (omega arith) e)
+-- a key that fails opens nothing
+pub key_fails : (s : Set) (key cipher : List ℕ) (e : Failure) → KeyFails s key e → OpenFails s key cipher e
+key_fails s key cipher Malformed h = h
+key_fails s key cipher Singular h = h
+key_fails s key cipher NotOpened h = absurd h
 
--- an enum that a test told apart
+-- the elements of a vector's word are below 2 ^ m
+pub sent-small : (s : Set) (κ : Private) → s.m ≡ width (field_of s) → (c sent : List ℕ) → Vector s κ c (take s.k sent)
+    → ((j : ℕ) → j < length sent → get_or sent j 0 ≡ encoded s κ.ge (take s.k sent) j) → Small s.m sent
+sent-small s κ w c sent v e j = subst (λ (b : ℕ). get_or sent j 0 < 2 ^ b) (sym w) (go (dec_lt j (length sent)))
+  where
+    of : Dec (j < s.k) → encoded s κ.ge (take s.k sent) j < size ten
+    of (yes h) = rw (encoded-low s κ.ge (take s.k sent) j h) (v.small j)
+    of (no d) = encoded-lt s κ.ge (take s.k sent) j (omega arith)
 
-near-told : (s : Set) (y : List ℕ) (r : Result Unit Undecodable) (l : List ℕ) → NearIn s y r l → r ≡ Ok tt → Near ten s.n s.t y (code_in s l)
-near-told s y (Ok x) l N e = N
-near-told s y (Err x) l N e = absurd (let z : ◌≡◌ {A = ℕ} 0 1 = cc in omega arith)
+    go : Dec (j < length sent) → get_or sent j 0 < size ten
+    go (yes h) = rw (e j h) (of (dec_lt j s.k))
+    go (no d) = let past : length sent ≤ j = omega arith in rw get_or-eq_default (omega arith)
 
-none_told : (s : Set) (y : List ℕ) (r : Result Unit Undecodable) (l : List ℕ) → NearIn s y r l → (r ≡ Ok tt → ⊥) → (c : List ℕ) → Near ten s.n s.t y c → ⊥
-none_told s y (Err x) l N e = N
-none_told s y (Ok x) l N e = absurd (e refl)
+-- a refusal
+pub opens_err : (s : Set) (key cipher msg : List ℕ) (r : Result ⊤ Failure) → IsErr r → IfErr r (OpenFails s key cipher) → OpensAs s key cipher r msg
+opens_err s key cipher msg (Err e) i h = h
+opens_err s key cipher msg (Ok v) i h = absurd (false≢true i)
 
-accepted-told : (s : Set) (κ : Private) (x y : List ℕ) (r : Result (Unit {0}) WrongCheck) (msg : List ℕ) → Finishes s κ x y r msg → r ≡ Ok tt → Finishes s κ x y (Ok tt) msg
-accepted-told s κ x y r msg F e = rw e at F
+module _ (P : PreparedKey) where
+  abbrev s : Set
+  s = P.key.parameters.set
 
-wrong-told : (s : Set) (κ : Private) (x y : List ℕ) (r : Result (Unit {0}) WrongCheck) (msg : List ℕ) {w : WrongCheck} → Finishes s κ x y r msg → r ≡ Err w → Accepted s κ x y → ⊥
-wrong-told s κ x y r msg F e = rw e at F
+  abbrev key : List ℕ
+  key = P.key.bytes.now
 
-module _ (s : Set) (key cipher msg l : List ℕ) (u : ℕ) (Q : Working s key l u) where
   abbrev κ : Private
   κ = read s key
 
-  abbrev y : List ℕ
-  y = elements s.m cipher
+  abbrev G : KeyGiven s key
+  G = given P.key
 
-  answer-not : ((m : List ℕ) → Opens s key cipher m → ⊥) → OpensAs s key cipher Not msg
-  answer-not none = (Q.formed, regular s key l u Q, none)
+  wf : WellFormed s key
+  wf = formed_of s key P.formed
 
-  -- a spare bit is set
-  pub spare-not : (b : Bool) → b ≡ tail_zero s.m cipher → b ≡ false → OpensAs s key cipher Not msg
-  spare-not b d e = answer-not (λ m O. false≢true (sym e ∙ d ∙ O.spare))
+  -- W is regular
+  not-singular : Opening.Singular s κ → ⊥
+  not-singular = regular s κ P.matrix.now (rw P.mixed_is at P.inverse)
 
-  -- where a message is opened, its code word is near
-  opened-near : (m : List ℕ) (O : Opens s key cipher m) → Near ten s.n s.t (undone_of s key cipher) O.code
-  opened-near m O = near s key Q.given Q.formed (regular s key l u Q) cipher O.code O.word O.near
+  module _ (cipher : List ℕ) where
+    abbrev y : List ℕ
+    y = elements s.m cipher
 
-  module _ (l₁ : List ℕ) (r : Result Unit Undecodable) (D : Decodes s (undone_of s key cipher) l r l₁) where
-    pub decoded-working : Working s key l₁ u
-    decoded-working = working-same s key l l₁ u Q D.same
+    nothing : ((m : List ℕ) → Opens s key cipher m → ⊥) → OpenFails s key cipher NotOpened
+    nothing none = (wf, not-singular, none)
+
+    -- a spare bit is set
+    pub spare_not : (b : Bool) → b ≡ tail_zero s.m cipher → b ≡ false → OpenFails s key cipher NotOpened
+    spare_not b d e = nothing (λ m O. false≢true (sym e ∙ d ∙ O.spare))
+
+    -- where a message is opened, its code word is near
+    opened-near : (m : List ℕ) (O : Opens s key cipher m) → Near ten s.n s.t (undone s κ y) O.code
+    opened-near m O = near s key G wf not-singular cipher O.code O.word O.near
 
     -- no code word is near
-    pub none-not : (r ≡ Ok tt → ⊥) → OpensAs s key cipher Not msg
-    none-not e = answer-not (λ m O. none_told s (undone_of s key cipher) r l₁ D.near e O.code (opened-near m O))
+    pub none_not : (e : Failure) → (e ≡ NotOpened) × ((c : List ℕ) → Near ten s.n s.t (undone s κ y) c → ⊥) → OpenFails s key cipher e
+    none_not e (q, none) = rw q (nothing (λ m O. none O.code (opened-near m O)))
 
-    module _ (e : r ≡ Ok tt) (l₂ : List ℕ) (F : Found s key (code_in s l₁) l₂) (f : Result (Unit {0}) WrongCheck) (E : Finishes s κ (vector_in s l₂) y f msg) where
-      found : Near ten s.n s.t (undone_of s key cipher) (code_in s l₁)
-      found = near-told s (undone_of s key cipher) r l₁ D.near e
-
+    module _ (c x : List ℕ) (near-c : Near ten s.n s.t (undone s κ y) c) (v : Vector s κ c x) where
       -- it is the code word that was found, and its vector the one that was found
-      opened-code : (m : List ℕ) (O : Opens s key cipher m) → O.code ≡ code_in s l₁
-      opened-code m O =
-          near-once ten-field s.n (omega (arith, rw Q.given.element at Q.given.valid.points)) s.t (undone_of s key cipher) O.code (code_in s l₁) (opened-near m O) found
-
-      opened-vector : (m : List ℕ) (O : Opens s key cipher m) → O.x ≡ vector_in s l₂
+      opened-vector : (m : List ℕ) (O : Opens s key cipher m) → O.x ≡ x
       opened-vector m O =
-          vector-one s key Q.given Q.formed (regular s key l u Q) (code_in s l₁) O.x (vector_in s l₂) (rw (opened-code m O) at O.vector) F.vector
+          let e : O.code ≡ c = near-once (field s) s.n (points s key G wf not-singular) s.t (undone s κ y) O.code c (opened-near m O) near-c in
+          vector-one s key G wf not-singular c O.x x (rw e at O.vector) v
 
-      -- the vector is not accepted
-      pub wrong-not : {e : WrongCheck} → f ≡ Err e → OpensAs s key cipher Not msg
-      wrong-not w =
-          answer-not
-          (λ m O. let v : O.x ≡ vector_in s l₂ = opened-vector m O in
-          wrong-told s κ (vector_in s l₂) y f msg E w (record { exactly = rw v at O.exactly; checks = rw v at O.checks }))
+      accepted-opens : (b : Bool) → b ≡ tail_zero s.m cipher → b ≡ true → Accepted s κ x y → (msg : List ℕ)
+          → msg ≡ message_of s (repadded s κ x y) (bytes16 (error_places s κ x y)) → Opens s key cipher msg
+      accepted-opens b d t A msg e =
+          let h : s.t + s.t ≡ s.n - s.k = omega (arith, G.valid.code) in
+          record {
+            spare = sym d ∙ t;
+            code = c;
+            word = rw h at near-c.code;
+            near = rw (apart-turn s.n (undone s κ y) c) near-c.close;
+            x = x;
+            vector = v;
+            exactly = A.exactly;
+            checks = A.checks;
+            message = e;
+          }
 
-      -- the message
-      pub message-opens : (b : Bool) → b ≡ tail_zero s.m cipher → b ≡ true → f ≡ Ok tt → OpensAs s key cipher Message msg
-      message-opens b d t q =
-          let A = accepted-told s κ (vector_in s l₂) y f msg E q in
-          let h : s.t + s.t ≡ s.n - s.k = omega (arith, Q.given.valid.code) in (
-            Q.formed,
-            regular s key l u Q,
-            record {
-              spare = sym d ∙ t;
-              code = code_in s l₁;
-              word = rw h at found.code;
-              near = rw (apart-turn s.n (undone_of s key cipher) (code_in s l₁)) found.close;
-              x = vector_in s l₂;
-              vector = F.vector;
-              exactly = A.0.exactly;
-              checks = A.0.checks;
-              message = A.1;
-            },
-          )
+      pub finished : (b : Bool) → b ≡ tail_zero s.m cipher → b ≡ true → (msg : List ℕ) (r : Result ⊤ Failure) → OnOk r (Accepted s κ x y)
+          → OnOk r (msg ≡ message_of s (repadded s κ x y) (bytes16 (error_places s κ x y)))
+          → IfErr r (λ e. (e ≡ NotOpened) × (Accepted s κ x y → ⊥)) → OpensAs s key cipher r msg
+      finished b d t msg (Ok v) A e n = (wf, not-singular, accepted-opens b d t A msg e)
+      finished b d t msg (Err f) A e (q, n) =
+          rw q
+          (nothing
+          (λ m O. let w : O.x ≡ x = opened-vector m O in
+          n (record { exactly = rw w at O.exactly; checks = rw w at O.checks })))
 
--- ---- what preparing the key answered
-module _ (s : Set) (key l : List ℕ) where
-  pub prepared-malformed : (r : Prepared) → Prepares s key r l → r ≡ Malformed → WellFormed s key → ⊥
-  prepared-malformed Malformed P e = P
-  prepared-malformed Singular P e = absurd (let z : ◌≡◌ {A = ℕ} 0 1 = cc in omega arith)
-  prepared-malformed (Ready u) P e = absurd (let z : ◌≡◌ {A = ℕ} 0 1 = cc in omega arith)
+  -- the same, of the elements as they were unpacked
+  module _ (cipher y : List ℕ) (ey : y ≡ elements P.key.parameters.set.m cipher) where
+    pub none_as : (e : Failure) → (e ≡ NotOpened) × ((c : List ℕ) → Near ten s.n s.t (undone s κ y) c → ⊥) → OpenFails s key cipher e
+    none_as = rw ey (none_not cipher)
 
-  pub prepared-singular : (r : Prepared) → Prepares s key r l → r ≡ Singular → WellFormed s key × Opening.Singular s (read s key)
-  prepared-singular Singular P e = P
-  prepared-singular Malformed P e = absurd (let z : ◌≡◌ {A = ℕ} 0 1 = cc in omega arith)
-  prepared-singular (Ready u) P e = absurd (let z : ◌≡◌ {A = ℕ} 0 1 = cc in omega arith)
-
-  pub prepared-ready : (r : Prepared) (u : ℕ) → Prepares s key r l → r ≡ Ready u → Working s key l u
-  prepared-ready (Ready v) u P e = let q : v ≡ u = cc in rw q at P
-  prepared-ready Malformed u P e = absurd (let z : ◌≡◌ {A = ℕ} 0 1 = cc in omega arith)
-  prepared-ready Singular u P e = absurd (let z : ◌≡◌ {A = ℕ} 0 1 = cc in omega arith)
+    pub finished_as : (c x : List ℕ) → Near ten s.n s.t (undone s κ y) c → Vector s κ c x → (b : Bool) → b ≡ tail_zero s.m cipher → b ≡ true → (msg : List ℕ) (r : Result ⊤ Failure)
+        → OnOk r (Accepted s κ x y) → OnOk r (msg ≡ message_of s (repadded s κ x y) (bytes16 (error_places s κ x y)))
+        → IfErr r (λ e. (e ≡ NotOpened) × (Accepted s κ x y → ⊥)) → OpensAs s key cipher r msg
+    finished_as = rw ey (finished cipher)

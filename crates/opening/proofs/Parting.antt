@@ -1,35 +1,36 @@
--- Listing the places I and T of a well-formed key.
-use mathlib.Core.Path.{◌≡◌, sym, ap, subst, ◌∙◌}
+-- The places I and T of a well-formed key.
+use mathlib.Core.Path.{◌≡◌, refl, sym, subst, ◌∙◌}
 use mathlib.Core.Logic.{◌≢◌}
 use mathlib.Core.Bool.{not}
 use mathlib.Core.List.{List}
 use Prim.Native.Nat.{ℕ, ◌+◌, ◌-◌, ◌*◌, ◌^◌, ◌≤◌, ◌<◌}
 use native.Mathlib.Omega.{arith}
-use lib.Dec.{ltb}
-use lib.Seq.{get_or-take}
-use lib.ListN.{length, get_or}
+use native.Mathlib.Decide.{dec_lt}
+use borrow.Author.Tests.{lt-ltb, le-ltb, le-leb, lt-leb}
+use lib.Dec.{ltb, leb}
+use lib.ListN.{length, get_or, take}
 use Rattle.gf.specs.Field.{size}
 use Rattle.gf.specs.Ten.{ten}
-use Rattle.gf.proofs.Ten.{ten-field}
 use Rattle.gf.proofs.Elements.{el-nonzero}
 use Rattle.bits.specs.Bits.{elements_at}
-use Rattle.bits.proofs.Packing.{elements_at-small}
+use Rattle.bits.proofs.Packing.{elements_at-small, length-elements_at}
 use Rattle.perm.specs.Perm.{Inverse, Perm}
 use Rattle.pairs.specs.Sizes as pairs
 use Rattle.pairs.specs.Key as keys
+use Rattle.pairs.specs.Places.{Split}
 use Rattle.sets.specs.declared.Set.{Set}
+use Rattle.sets.specs.Valid.{key_elements}
 use Rattle.scheme.specs.Lists.{passing, inverse_of}
-use Rattle.scheme.specs.Keys.{WellFormed, read, lists_end}
+use Rattle.scheme.specs.Keys.{Private, WellFormed, read, lists_end}
 use Rattle.scheme.specs.Opening.{placed, unmixed, places_i, places_t}
-use Rattle.opening.specs.Area.{second_at, first_at, mixed_at, plain_at}
+use Rattle.tie.proofs.Bridge.{field, K, sizes, key_of}
+use Rattle.tie.proofs.Splitting.{spare, enough-T, length-T, split-IT}
 use Rattle.opening.specs.Given.{KeyGiven}
-use Rattle.opening.specs.Stages.{Collected, Keyed, Parted}
-use Rattle.opening.proofs.Reading.{length-first, length-second}
-use Rattle.opening.proofs.KeyLaws.{inverse-of}
-use Rattle.opening.proofs.Collecting.{length-passing}
-use Rattle.tie.proofs.Passing.{passing-ext}
-use Rattle.opening.proofs.Bridge.{K, sizes, key_of}
-use Rattle.opening.proofs.Splitting.{spare, enough-T}
+use Rattle.opening.specs.Bounds.{Bounds}
+use Rattle.opening.specs.Listing.{Listed}
+use Rattle.opening.proofs.Listing.{length-passing, listed-all, listed-first}
+use Rattle.opening.proofs.Permuting.{inverse-of}
+use Rattle.opening.proofs.Reading.{length_first, length_second}
 
 -- a list and its inverse as functions
 inverse-fn : (n : ℕ) (p : List ℕ) → length p ≡ n → Perm p → pairs.Inverse n (λ i. get_or p i 0) (λ i. get_or (inverse_of p) i 0)
@@ -42,70 +43,97 @@ inverse-fn n p e perm =
       back = λ i h. v.back i (rw e h);
     }
 
+pub le_not : (a b : ℕ) → leb a b ≡ not (ltb b a)
+le_not a b = go (dec_lt b a)
+  where
+    go : Dec (b < a) → leb a b ≡ not (ltb b a)
+    go (yes h) = rw (lt-ltb b a h, lt-leb a b h)
+    go (no d) = let h : a ≤ b = omega arith in rw (le-ltb b a h, le-leb a b h)
+
+-- the places of I, as a list of P2 has them
+pub mixed-listed : (s : Set) (κ : Private) (second out : List ℕ) (r : ℕ) → second ≡ inverse_of κ.q2 → r ≤ length out
+    → Listed (passing (λ j. not (ltb (get_or second j 0) (s.n - s.w))) 0 (s.k - 0)) out r → take r out ≡ places_i s κ
+unfolding places_i unmixed placed
+mixed-listed s κ second out r e h C =
+    let k : s.k - 0 ≡ s.k = omega arith in
+    listed-all (passing (λ j. not (ltb (get_or (inverse_of κ.q2) j 0) (s.n - s.w))) 0 s.k) out r (rw (e, k) at C) h
+
 module _ (s : Set) (key : List ℕ) (G : KeyGiven s key) (wf : WellFormed s key) where
-  pub inverse-small : (i : ℕ) → get_or (read s key).inverses i 0 < size ten
+  abbrev κ : Private
+  κ = read s key
+
+  inverse-small : (i : ℕ) → get_or (read s key).inverses i 0 < size ten
   unfolding read
   inverse-small i =
       subst (λ (w : ℕ). get_or (elements_at s.n s.m key (8 * lists_end s + s.m * (2 * s.w))) i 0 < 2 ^ w) G.element
       (elements_at-small s.n s.m key (8 * lists_end s + s.m * (2 * s.w)) i)
 
-  pub well : keys.WellFormed K (sizes s G.valid) (key_of s G.valid (read s key))
+  pub ge-small : (i : ℕ) → get_or κ.ge i 0 < size ten
+  unfolding read
+  ge-small i =
+      subst (λ (w : ℕ). get_or (elements_at (key_elements s) s.m key (8 * lists_end s + s.m * (2 * s.w + s.n))) i 0 < 2 ^ w) G.element
+      (elements_at-small (key_elements s) s.m key (8 * lists_end s + s.m * (2 * s.w + s.n)) i)
+
+  pub well : keys.WellFormed (K s) (sizes G.valid) (key_of s (read s key))
   well =
       record {
-        first = inverse-fn s.n (read s key).q1 (length-first s key G) wf.first;
-        second = inverse-fn (s.n + s.w) (read s key).q2 (length-second s key G) wf.second;
-        nonzero = λ i h. el-nonzero ten ten-field (get_or (read s key).inverses i 0) (pos (wf.nonzero i h)) (inverse-small i);
+        first = inverse-fn s.n (read s key).q1 (length_first s key G.valid G.long) wf.first;
+        second = inverse-fn (s.n + s.w) (read s key).q2 (length_second s key G.valid G.long) wf.second;
+        nonzero = λ i h. el-nonzero ten (field s) (get_or (read s key).inverses i 0) (pos (wf.nonzero i h)) (inverse-small i);
       }
     where
       pos : {x : ℕ} → x ≢ 0 → 0 < x
       pos {x} d = omega arith
 
-  module _ (l₀ l₁ l₂ : List ℕ) (Y : Keyed s (read s key) l₀) where
-    second-placed : (j : ℕ) → j < s.n + s.w → get_or l₀ (second_at s + j) 0 ≡ placed (read s key) j
-    unfolding placed
-    second-placed j h = Y.orders.second j h
+  pub parts : Split s.k (s.n + s.w) (keys.Unmixed (K s) (sizes G.valid) (key_of s κ)) (length (places_i s κ)) (λ i. get_or (places_i s κ) i 0) (λ b. get_or (places_t s κ) b 0)
+  parts = split-IT s G.valid κ well
 
-    mixed-is : passing (λ j. not (ltb (get_or l₀ (second_at s + j) 0) (s.n - s.w))) 0 s.k ≡ places_i s (read s key)
-    unfolding places_i unmixed
-    mixed-is =
-        passing-ext _ _ 0 s.k
-        (λ j a b. ap (λ (x : ℕ). not (ltb x (s.n - s.w))) (second-placed j (omega (arith, G.valid.room))))
+  pub few-mixed : length (places_i s κ) ≤ s.k
+  unfolding places_i
+  few-mixed = length-passing (λ j. not (unmixed s κ j)) 0 s.k
 
-    pub few-mixed : (u : ℕ) → Collected (mixed_at s) s.k (passing (λ j. not (ltb (get_or l₀ (second_at s + j) 0) (s.n - s.w))) 0 s.k) l₀ l₁ u → u ≤ s.k
-    few-mixed u C = omega (arith, C.count, length-passing (λ j. not (ltb (get_or l₀ (second_at s + j) 0) (s.n - s.w))) 0 s.k)
+  pub as-many : length (places_t s κ) ≡ length (places_i s κ)
+  as-many = length-T s G.valid κ well
 
-    module _ (u r : ℕ) (C : Collected (mixed_at s) s.k (passing (λ j. not (ltb (get_or l₀ (second_at s + j) 0) (s.n - s.w))) 0 s.k) l₀ l₁ u)
-        (D : Collected (plain_at s) u (passing (λ j. ltb (get_or l₁ (second_at s + j) 0) (s.n - s.w)) s.k (s.n + s.w - s.k)) l₁ l₂ r) where
-      plain-is : passing (λ j. ltb (get_or l₁ (second_at s + j) 0) (s.n - s.w)) s.k (s.n + s.w - s.k) ≡ spare s G.valid (read s key)
-      unfolding unmixed
-      plain-is =
-          passing-ext _ _ s.k (s.n + s.w - s.k)
-          (λ j a b. let h : j < s.n + s.w = omega (arith, G.valid.room) in
-          ap (λ (x : ℕ). ltb x (s.n - s.w)) (C.elsewhere (second_at s + j) (λ p q. omega arith) ∙ second-placed j h))
+  -- the places of T
+  pub plain-listed : (second out : List ℕ) (r : ℕ) → second ≡ inverse_of κ.q2 → length out ≡ length (places_i s κ)
+      → Listed (passing (λ j. ltb (get_or second j 0) (s.n - s.w)) s.k (s.n + s.w - s.k)) out r → out ≡ places_t s κ
+  unfolding places_t unmixed placed
+  plain-listed second out r e h C =
+      let D : Listed (spare s G.valid κ) out r = rw e at C in
+      listed-first (spare s G.valid κ) out r D (omega (arith, D.count, enough-T s G.valid κ well)) ∙ rw h refl
 
-      kept-to : (i : ℕ) → i < mixed_at s → get_or l₂ i 0 ≡ get_or l₀ i 0
-      kept-to i h = D.elsewhere i (λ a b. omega arith) ∙ C.elsewhere i (λ a b. omega arith)
+  bounds : Bounds s κ κ.ge (inverse_of κ.q1) (inverse_of κ.q2) (places_i s κ) (places_t s κ)
+  unfolding read placed
+  bounds =
+      record {
+        ge_long = length-elements_at (key_elements s) s.m key _;
+        first_long = sym v₁.long ∙ n₁;
+        second_long = sym v₂.long ∙ n₂;
+        as_many = as-many;
+        few = few-mixed;
+        q1_low = λ j h. rw n₁ at (v₁.low j (rw n₁ h));
+        q2_low = λ i h. rw n₂ at (v₂.low i (rw n₂ h));
+        first_low = λ j h. let e : length (inverse_of κ.q1) ≡ s.n = sym v₁.long ∙ n₁ in rw e at (v₁.low_back j (rw e h));
+        mixed_low = λ a h. parts.solved.under a h;
+        mixed_apart = λ a b h g e. omega (arith, parts.solved.rising a b h g);
+        plain_high = λ b h. parts.high b (omega (arith, as-many));
+        plain_low = λ b h. parts.low b (omega (arith, as-many));
+        plain_read = λ b h. parts.read b (omega (arith, as-many));
+      }
+    where
+      n₁ : length (read s key).q1 ≡ s.n
+      n₁ = length_first s key G.valid G.long
 
-      counted : u ≡ length (places_i s (read s key))
-      counted = C.count ∙ ap length mixed-is
+      n₂ : length (read s key).q2 ≡ s.n + s.w
+      n₂ = length_second s key G.valid G.long
 
-      pub parted : Parted s (read s key) l₂ u
-      unfolding places_t
-      parted =
-          let f : u ≤ s.k = few-mixed u C in
-          record {
-            keyed = record {
-              long = D.long ∙ C.long ∙ Y.long;
-              orders = record {
-                second = λ i h. kept-to (second_at s + i) (omega arith) ∙ Y.orders.second i h;
-                first = λ i h. kept-to (first_at s + i) (omega arith) ∙ Y.orders.first i h;
-              };
-              ge = λ i h. kept-to i (omega arith) ∙ Y.ge i h;
-            };
-            count = counted;
-            mixed = λ a h. D.elsewhere (mixed_at s + a) (λ p q. omega arith) ∙ C.there a h (omega arith) ∙ ap (λ (x : List ℕ). get_or x a 0) mixed-is;
-            plain = λ b h.
-                let many : u ≤ r = omega (arith, D.count, ap length plain-is, counted, enough-T s G.valid (read s key) well) in
-                D.there b (omega arith) h ∙ ap (λ (x : List ℕ). get_or x b 0) plain-is
-                ∙ sym (get_or-take (length (places_i s (read s key))) (spare s G.valid (read s key)) b 0 (omega (arith, counted)));
-          }
+      v₁ : Inverse (read s key).q1 (inverse_of (read s key).q1)
+      v₁ = inverse-of (read s key).q1 wf.first
+
+      v₂ : Inverse (read s key).q2 (inverse_of (read s key).q2)
+      v₂ = inverse-of (read s key).q2 wf.second
+
+  pub bounds-as : (ge first second mixed plain : List ℕ) → ge ≡ κ.ge → first ≡ inverse_of κ.q1 → second ≡ inverse_of κ.q2 → mixed ≡ places_i s κ → plain ≡ places_t s κ
+      → Bounds s κ ge first second mixed plain
+  bounds-as ge first second mixed plain eg e₁ e₂ em ep = rw (eg, e₁, e₂, em, ep) bounds

@@ -1,9 +1,9 @@
 -- What the contracts of opening are written in.
-pub mod Reading
-pub mod Given
 pub mod Area
-pub mod Stages
-pub mod Receiving
-pub mod Tailed
-pub mod Differing
+pub mod Given
+pub mod Held
+pub mod Listing
+pub mod Bounds
+pub mod Inverse
+pub mod Vector
 pub mod Ending

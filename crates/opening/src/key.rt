@@ -1,141 +1,140 @@
-// What a private key and a ciphertext hold, read straight from their bytes.
-ghost use Rattle.std.specs.Prelude.{◌≡◌, ◌+◌, ◌*◌, ◌<◌, ◌≤◌, ◌^◌, length, get_or, drop};
-ghost use Rattle.lists.specs.Parts.{Wrote};
-ghost use Rattle.bits.specs.Bits.{elements, elements_at, tail_zero};
-ghost use Rattle.sets.specs.Valid.{Valid};
-ghost use Rattle.scheme.specs.Keys.{read, lists_end};
-ghost use Rattle.opening.specs.Area.{second_at, mixed_at};
-ghost use Rattle.opening.specs.Given.{KeyGiven, Given};
-ghost use Rattle.opening.specs.Stages.{Orders, Keyed, Formed, Ordered};
+// A private key, read straight from its bytes.
+ghost use Rattle.std.specs.Prelude.{◌≡◌, ◌≢◌, ◌↔◌, ℕ, IsTrue, IfOk, IfErr, Some, ◌+◌, ◌-◌, ◌*◌, ◌<◌, ◌≤◌, ◌^◌, length, get_or, drop};
+ghost use Rattle.bits.specs.Bits.{tail_zero};
+ghost use Rattle.bits.specs.Numbers.{numbers16};
+ghost use Rattle.gf.specs.Field.{width};
+ghost use Rattle.scheme.specs.Field.{field_of};
+ghost use Rattle.sets.specs.Table.{set_of};
+ghost use Rattle.scheme.specs.Keys.{lists_end};
+ghost use Rattle.opening.specs.Given.{KeyRefused};
 
-use crate::bytes::{none_zero, number_from};
-use crate::inverse::invert_at;
-use sets::Set;
+use scheme::Refusal;
+use sets::{ParameterSet, Set};
 
-// The bit at which the key's elements begin.
-fn elements_from(s: Set) -> usize
-    requires { Valid s }
-    ensures { (result ≡ 8 * lists_end s) × (result < 2 ^ 24) }
-{
-    8 * (1 + 2 * s.n + 2 * (s.n + s.w))
+/// A private key of its set's length. Nothing is known yet of its lists and elements.
+#[derive(Clone, Copy)]
+pub struct PrivateKey<'a> {
+    pub parameters: ParameterSet,
+    pub bytes: &'a [u8],
+    pub ghost whole: { length bytes.now ≡ parameters.set.private },
+    pub ghost element: { parameters.set.m ≡ width (field_of parameters.set) },
 }
 
-// Element i of the first columns of the inverse blocks.
-pub fn column_at(s: Set, key: &[u8], i: usize) -> u16
-    requires { KeyGiven s key.now × (i < 2 * s.w) }
-    ensures { result ≡ get_or (read s key.now).columns i 0 }
-{
-    let m = s.m;
-    bits::bits_at(key, m, elements_from(s) + m * i)
-}
+impl<'a> PrivateKey<'a> {
+    ghost use Rattle.opening.specs.Held.{held};
 
-// Inverse i of the multipliers.
-pub fn inverse_at(s: Set, key: &[u8], i: usize) -> u16
-    requires { KeyGiven s key.now × (i < s.n) }
-    ensures { result ≡ get_or (read s key.now).inverses i 0 }
-{
-    let m = s.m;
-    bits::bits_at(key, m, elements_from(s) + m * (2 * s.w) + m * i)
-}
-
-// Entry j of the inverse of P1.
-pub fn first_at(s: Set, key: &[u8], j: usize) -> usize
-    requires { KeyGiven s key.now × (j < s.n) }
-    ensures { result ≡ get_or (read s key.now).q1 j 0 }
-{
-    number_from(key, 1, j)
-}
-
-// Element j of the ciphertext.
-pub fn element_at(s: Set, cipher: &[u8], j: usize) -> u16
-    requires { Valid s × (length cipher.now ≡ s.cipher) × (j < s.n + s.w) }
-    ensures { (result ≡ get_or (elements s.m cipher.now) j 0) × (result < 2 ^ s.m) }
-{
-    let m = s.m;
-    bits::bits_at(cipher, m, m * j)
-}
-
-// The element of the ciphertext that undoing P2 brings to place i.
-pub fn received(s: Set, key: &[u8], cipher: &[u8], i: usize) -> u16
-    requires { Given s key.now cipher.now × (i < s.n + s.w) }
-    ensures { result ≡ get_or (elements s.m cipher.now) (get_or (read s key.now).q2 i 0) 0 }
-{
-    element_at(s, cipher, number_from(key, 1 + 2 * s.n, i))
-}
-
-// Whether the key's lists are permutations; if so, P1 and P2 stand in the work area.
-fn orders(s: Set, key: &[u8], work: &mut [u16]) -> bool
-    requires { KeyGiven s key.now × (mixed_at s ≤ length work.old) }
-    ensures { Ordered s (read s key.now) work.new result }
-{
-    let n = s.n;
-    let total = n + s.w;
-    let second = s.k * (total - s.k);
-    if !invert_at(key, 1 + 2 * n, work, second, total) {
-        return false;
+    /// The key in these bytes, of the set that the first of them names.
+    #[tactic(auto, using(crate::proofs::Naming::element_of, crate::proofs::Naming::key_refused))]
+    pub fn read(bytes: &'a [u8]) -> Result<PrivateKey<'a>, Refusal>
+        ensures bytes { IfOk result (λ key. key.bytes.now ≡ bytes.now) }
+        ensures set { IfOk result (λ key. set_of (get_or bytes.now 0 0) ≡ Some key.parameters.set) }
+        ensures refused { IfErr result (KeyRefused bytes.now) }
+    {
+        let Some(byte) = bytes.first() else {
+            return Err(Refusal::WrongLength);
+        };
+        let Some(parameters) = sets::find(*byte) else {
+            return Err(Refusal::UnknownSet);
+        };
+        if bytes.len() != parameters.set.private {
+            return Err(Refusal::WrongLength);
+        }
+        Ok(PrivateKey { parameters, bytes })
     }
-    invert_at(key, 1, work, second + total, n)
-}
 
-// Whether the key's spare bits are zero.
-fn spare_zero(s: Set, key: &[u8]) -> bool
-    requires { KeyGiven s key.now }
-    ensures { result ≡ tail_zero s.m (drop (lists_end s) key.now) }
-{
-    let end = 1 + 2 * s.n + 2 * (s.n + s.w);
-    let m = s.m;
-    bits::tail_zero(&key[end..], m)
-}
-
-// Whether the key is well formed; if so, P1 and P2 stand in the work area.
-fn well_formed(s: Set, key: &[u8], work: &mut [u16]) -> bool
-    requires { KeyGiven s key.now × (mixed_at s ≤ length work.old) }
-    ensures { Formed s key.now (Orders s (read s key.now) work.new) result }
-{
-    if !orders(s, key, work) {
-        return false;
+    /// Where the elements begin, in bytes.
+    fn lists_end(&self) -> usize
+        ensures { result ≡ lists_end self.now.parameters.set }
+    {
+        let Set { n, w, .. } = self.parameters.set;
+        1 + 2 * n + 2 * (n + w)
     }
-    let m = s.m;
-    let n = s.n;
-    if !none_zero(key, m, elements_from(s) + m * (2 * s.w), n) {
-        return false;
+
+    /// Entry j of the inverse of P1.
+    #[tactic(auto, using(crate::proofs::Reading::first_at))]
+    pub(crate) fn first(&self, j: usize) -> usize
+        requires { j < self.now.parameters.set.n }
+        ensures { result ≡ get_or (held self.now).q1 j 0 }
+    {
+        bits::number_at(&self.bytes[1..], j)
     }
-    spare_zero(s, key)
-}
 
-// n elements of m bits, from a bit place of the key on, come to the n numbers of the work area from `at` on.
-fn unpack_part(key: &[u8], m: usize, place: usize, work: &mut [u16], at: usize, n: usize)
-    requires { (m ≤ 16) × (place + m * n ≤ 8 * length key.now) × (at + n ≤ length work.old) × (place + m * n < 2 ^ 64) }
-    ensures { Wrote at n (λ i. get_or (elements_at n m key.now place) i 0) work.old work.new }
-{
-    reader::elements(key, m, place, &mut work[at..at + n]);
-}
-
-// GE comes to the front of the work area.
-fn unpack_ge(s: Set, key: &[u8], work: &mut [u16])
-    requires { KeyGiven s key.now × (second_at s ≤ length work.old) }
-    ensures { Wrote 0 (second_at s) (λ i. get_or (read s key.now).ge i 0) work.old work.new }
-{
-    let m = s.m;
-    let size = s.k * (s.n + s.w - s.k);
-    unpack_part(
-        key,
-        m,
-        elements_from(s) + m * (2 * s.w + s.n),
-        work,
-        0,
-        size,
-    );
-}
-
-// Reads the key: whether it is well formed; if so, GE, P1 and P2 stand in the work area.
-pub fn read_key(s: Set, key: &[u8], work: &mut [u16]) -> bool
-    requires { KeyGiven s key.now × (mixed_at s ≤ length work.old) × (length work.old ≡ s.work) }
-    ensures { Formed s key.now (Keyed s (read s key.now) work.new) result }
-{
-    if !well_formed(s, key, work) {
-        return false;
+    /// Entry i of the inverse of P2.
+    #[tactic(auto, using(crate::proofs::Reading::second_at))]
+    pub(crate) fn second(&self, i: usize) -> usize
+        requires { i < self.now.parameters.set.n + self.now.parameters.set.w }
+        ensures { result ≡ get_or (held self.now).q2 i 0 }
+    {
+        let n = self.parameters.set.n;
+        bits::number_at(&self.bytes[1 + 2 * n..], i)
     }
-    unpack_ge(s, key, work);
-    true
+
+    /// The inverse of P1 in bytes.
+    pub(crate) fn first_list(&self) -> &'a [u8]
+        ensures numbers { numbers16 result.now ≡ (held self.now).q1 }
+        ensures len { length result.now ≡ 2 * self.now.parameters.set.n }
+    {
+        let n = self.parameters.set.n;
+        &self.bytes[1..1 + 2 * n]
+    }
+
+    /// The inverse of P2 in bytes.
+    pub(crate) fn second_list(&self) -> &'a [u8]
+        ensures numbers { numbers16 result.now ≡ (held self.now).q2 }
+        ensures len { length result.now ≡ 2 * (self.now.parameters.set.n + self.now.parameters.set.w) }
+    {
+        let Set { n, w, .. } = self.parameters.set;
+        &self.bytes[1 + 2 * n..1 + 2 * n + 2 * (n + w)]
+    }
+
+    /// Element i of the first columns of the inverse blocks.
+    #[tactic(auto, using(crate::proofs::Reading::column_at))]
+    pub(crate) fn column(&self, i: usize) -> u16
+        requires { i < 2 * self.now.parameters.set.w }
+        ensures { result ≡ get_or (held self.now).columns i 0 }
+    {
+        let m = self.parameters.set.m;
+        bits::bits_at(self.bytes, m, 8 * self.lists_end() + m * i)
+    }
+
+    /// Inverse i of the multipliers.
+    #[tactic(auto, using(crate::proofs::Reading::inverse_at))]
+    pub(crate) fn inverse(&self, i: usize) -> u16
+        requires { i < self.now.parameters.set.n }
+        ensures { result ≡ get_or (held self.now).inverses i 0 }
+    {
+        let Set { m, w, .. } = self.parameters.set;
+        bits::bits_at(self.bytes, m, 8 * self.lists_end() + m * (2 * w) + m * i)
+    }
+
+    /// Whether no inverse is zero.
+    pub(crate) fn none_zero(&self) -> bool
+        ensures { IsTrue result ↔ ((i : ℕ) → i < self.now.parameters.set.n → get_or (held self.now).inverses i 0 ≢ 0) }
+    {
+        let n = self.parameters.set.n;
+        for i in 0..n {
+            if self.inverse(i) == 0 {
+                return false;
+            }
+        }
+        true
+    }
+
+    /// Whether the spare bits after the last element are zero.
+    pub(crate) fn spare_zero(&self) -> bool
+        ensures { result ≡ tail_zero self.now.parameters.set.m (drop (lists_end self.now.parameters.set) self.now.bytes.now) }
+    {
+        let m = self.parameters.set.m;
+        let end = self.lists_end();
+        bits::tail_zero(&self.bytes[end..], m)
+    }
+
+    /// GE, by rows.
+    pub(crate) fn unpack_ge(&self, ge: &mut [u16])
+        requires { length ge.old ≡ self.now.parameters.set.k * (self.now.parameters.set.n + self.now.parameters.set.w - self.now.parameters.set.k) }
+        ensures { ge.new ≡ (held self.now).ge }
+    {
+        let Set { m, w, n, .. } = self.parameters.set;
+        bits::unpack_at(self.bytes, m, 8 * self.lists_end() + m * (2 * w + n), ge);
+    }
 }

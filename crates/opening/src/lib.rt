@@ -1,83 +1,96 @@
-// Opening a ciphertext with a short private key (01, Padding, sealing, opening; 001, 6.3).
-//
-// Small things, the lists and the columns of the key and the ciphertext's elements, are read straight from their bytes; everything that is
-// computed lives in the lent work area.
+// Opening a ciphertext with a private key (RLCE-KEM specification of September 14, 2017, section 6.3).
 #![tactic(auto)]
 
-ghost use Rattle.std.specs.Prelude.{◌≡◌, ◌+◌, ◌*◌, ◌≤◌, length};
-ghost use Rattle.opening.specs.Area.{Laid};
-ghost use Rattle.opening.specs.Stages.{Working};
-ghost use Rattle.opening.specs.Ending.{OpenGiven, OpensAs};
+ghost use Rattle.std.specs.Prelude.{◌≡◌, ◌+◌, ◌-◌, ◌*◌, ◌≤◌, length};
+ghost use Rattle.opening.specs.Area.{open_room, cipher_room};
+ghost use Rattle.opening.specs.Ending.{OpensAs, refusal_of};
 
-use area::{Area, lay};
-use decoding::receive;
-use finish::finish;
-use prepare::{Prepared, prepare};
+use key::PrivateKey;
+use prepare::{PreparedKey, prepare};
+use scheme::Refusal;
 use sets::Set;
-use solve::find_vector;
 
-mod area;
-mod bytes;
-mod decoding;
 mod finish;
-mod inverse;
-mod key;
+pub mod key;
 mod matrix;
 mod places;
 mod prepare;
-mod solve;
 mod sums;
 mod undo;
+mod vector;
 
-// What opening answers.
-#[derive(Clone, Copy)]
-pub enum Opened {
-    Message,
+/// Why nothing is opened.
+#[derive(Clone, Copy, Debug, PartialEq, Eq)]
+pub enum Failure {
+    /// The key is not well formed.
     Malformed,
+    /// The key's matrix W is singular.
     Singular,
-    Not,
+    /// The ciphertext is none that sealing makes.
+    NotOpened,
 }
 
-// Opens the ciphertext with a key that is prepared.
+impl From<Failure> for Refusal {
+    ghost from_gives = { λ failure refusal. refusal ≡ refusal_of failure };
+
+    fn from(failure: Failure) -> Refusal {
+        match failure {
+            Failure::Malformed => Refusal::Malformed,
+            Failure::Singular => Refusal::Singular,
+            Failure::NotOpened => Refusal::NotOpened,
+        }
+    }
+}
+
+/// Opens the ciphertext with a key that is prepared.
 fn open_prepared(
-    s: Set,
-    a: Area,
-    key: &[u8],
+    prepared: &PreparedKey,
     cipher: &[u8],
     message: &mut [u8],
     work: &mut [u16],
-    u: usize,
-) -> Opened
-    requires { Laid s a × Working s key.now work.old u × (length cipher.now ≡ s.cipher) × (length message.old ≡ s.k1) × (2 * s.t ≤ 1024) × (s.k1 + s.k2 + s.k3 ≤ 2048) }
-    ensures { OpensAs s key.now cipher.now result message.new }
+) -> Result<(), Failure>
+    requires cipher { length cipher.now ≡ prepared.now.key.parameters.set.cipher }
+    requires message { length message.old ≡ prepared.now.key.parameters.set.k1 }
+    requires room { cipher_room prepared.now.key.parameters.set ≤ length work.old }
+    requires places_fit { 2 * prepared.now.key.parameters.set.t ≤ 1024 }
+    requires padded_fit { prepared.now.key.parameters.set.k1 + prepared.now.key.parameters.set.k2 + prepared.now.key.parameters.set.k3 ≤ 2048 }
+    ensures { OpensAs prepared.now.key.parameters.set prepared.now.key.bytes.now cipher.now result message.new }
 {
-    let m = s.m;
+    let Set { n, k, t, w, m, .. } = prepared.key.parameters.set;
     if !bits::tail_zero(cipher, m) {
-        return Opened::Not;
+        return Err(Failure::NotOpened);
     }
-    let decoded = receive(s, a, key, cipher, work);
-    let Ok(()) = decoded else {
-        return Opened::Not;
-    };
-    find_vector(s, a, key, work, u);
-    let finished = finish(s, a, key, cipher, message, work, u);
-    match finished {
-        Ok(()) => Opened::Message,
-        Err(_) => Opened::Not,
-    }
+    let (received, rest) = work.split_at_mut(n + w);
+    let (word, rest) = rest.split_at_mut(n);
+    bits::unpack(cipher, m, received);
+    prepared.receive(received, word, rest)?;
+    // what decoding worked in is free again
+    let (sent, rest) = rest.split_at_mut(n + w);
+    let (string, rest) = rest.split_at_mut(k + t);
+    let (places, rest) = rest.split_at_mut(t);
+    let u = prepared.mixed.len();
+    let (right, rest) = rest.split_at_mut(u);
+    prepared.find_vector(word, sent, right, &mut rest[..u]);
+    prepared.finish(received, sent, string, places, message)
 }
 
-// Opens the ciphertext with the key. The key is judged first: malformed, or its matrix W singular. With the answer Message the message is the one
-// that the ciphertext opens to; with any other, the slice of the message holds anything, and so does the work area with every answer.
-pub fn open(s: Set, key: &[u8], cipher: &[u8], message: &mut [u8], work: &mut [u16]) -> Opened
-    requires { OpenGiven s key.now cipher.now message.old work.old }
-    ensures { OpensAs s key.now cipher.now result message.new }
+/// Opens the ciphertext with the key. The key is judged first: malformed, or its matrix W singular. With `Ok` the message is the one that the
+/// ciphertext opens to; else the slice of the message holds anything, and so does the work area in any case.
+pub fn open(
+    key: &PrivateKey,
+    cipher: &[u8],
+    message: &mut [u8],
+    work: &mut [u16],
+) -> Result<(), Failure>
+    requires cipher { length cipher.now ≡ key.now.parameters.set.cipher }
+    requires message { length message.old ≡ key.now.parameters.set.k1 }
+    requires room { open_room key.now.parameters.set ≤ length work.old }
+    requires places_fit { 2 * key.now.parameters.set.t ≤ 1024 }
+    requires padded_fit { key.now.parameters.set.k1 + key.now.parameters.set.k2 + key.now.parameters.set.k3 ≤ 2048 }
+    ensures { OpensAs key.now.parameters.set key.now.bytes.now cipher.now result message.new }
 {
-    let a = lay(s);
-    let prepared = prepare(s, a, key, work);
-    match prepared {
-        Prepared::Malformed => Opened::Malformed,
-        Prepared::Singular => Opened::Singular,
-        Prepared::Ready(u) => open_prepared(s, a, key, cipher, message, work, u),
-    }
+    let Set { n, k, w, .. } = key.parameters.set;
+    let (front, back) = work.split_at_mut(k * (n + w - k) + (n + w) + n + k + k + k * (k + k));
+    let prepared = prepare(key, front, back)?;
+    open_prepared(&prepared, cipher, message, back)
 }

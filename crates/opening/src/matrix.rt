@@ -1,58 +1,62 @@
-// The matrix W of the system for the mixed part of the vector, and its inverse.
-ghost use Rattle.std.specs.Prelude.{◌≡◌, List, ℕ, ◌+◌, ◌-◌, ◌*◌, ◌<◌, ◌≤◌, ◌^◌, length, get_or};
-ghost use Rattle.lists.specs.Parts.{Wrote, part};
-ghost use Rattle.gf.specs.Field.{size};
-ghost use Rattle.gf.specs.Ten.{ten};
-ghost use Rattle.linear.specs.Inverse.{inverted, Inverts};
-ghost use Rattle.opening.specs.Stages.{Put, Filled};
+// The matrix W.
+ghost use Rattle.std.specs.Prelude.{◌≡◌, ℕ, ◌+◌, ◌-◌, ◌*◌, ◌<◌, ◌≤◌, length, get_or, OnOk, IfErr};
+ghost use Rattle.scheme.specs.Keys.{WellFormed};
+ghost use Rattle.scheme.specs.Opening.{places_i, places_t};
+ghost use Rattle.opening.specs.Held.{held};
+ghost use Rattle.opening.specs.Inverse.{HoldsInverse};
+ghost use Rattle.opening.specs.Ending.{KeyFails};
 
-use linear::inverse::Singular;
+use crate::Failure;
+use crate::key::PrivateKey;
+use sets::Set;
 
-fn wide(work: &[u16], at: usize) -> usize
-    requires { at < length work.now }
-    ensures { (result ≡ get_or work.now at 0) × (result < 65536) }
+/// The columns of `plain` of the rows of `mixed`, of a matrix with `columns` columns from place k on, in the left half of rows of 2u.
+#[tactic(auto, using(crate::proofs::Matrices::row_fits))]
+pub(crate) fn fill_rows(
+    matrix: &mut [u16],
+    ge: &[u16],
+    mixed: &[u16],
+    plain: &[u16],
+    k: usize,
+    columns: usize,
+)
+    requires lengths { length mixed.now ≡ length plain.now }
+    requires few { length mixed.now < 65536 }
+    requires whole { length matrix.old ≡ length mixed.now * (length mixed.now + length mixed.now) }
+    requires ge { length ge.now ≡ k * columns }
+    requires mixed { (a : ℕ) → a < length mixed.now → get_or mixed.now a 0 < k }
+    requires plain { (b : ℕ) → b < length plain.now → (k ≤ get_or plain.now b 0) × (get_or plain.now b 0 < k + columns) }
+    ensures { (a b : ℕ) → a < length mixed.now → b < length mixed.now → get_or matrix.new (a * (length mixed.now + length mixed.now) + b) 0 ≡ get_or ge.now (get_or mixed.now a 0 * columns + (get_or plain.now b 0 - k)) 0 }
 {
-    work[at] as usize
-}
-
-// The number of the row that begins at `row`, in the column of the place that stands at t; the columns begin with place k.
-fn entry_at(work: &[u16], row: usize, t: usize, k: usize) -> u16
-    requires { (t < length work.now) × (k ≤ get_or work.now t 0) × (row + (get_or work.now t 0 - k) < length work.now) }
-    ensures { result ≡ get_or work.now (row + (get_or work.now t 0 - k)) 0 }
-{
-    let p = wide(work, t);
-    work[row + (p - k)]
-}
-
-// The u numbers from `at` on become those of a row of `cols` in the columns of the places that stand from t on.
-fn fill_row(work: &mut [u16], at: usize, u: usize, row: usize, cols: usize, t: usize, k: usize)
-    requires { (t + u ≤ at) × (row + cols ≤ at) × (at + u ≤ length work.old) × ((b : ℕ) → b < u → (k ≤ get_or work.old (t + b) 0) × (get_or work.old (t + b) 0 < k + cols)) }
-    ensures { Wrote at u (λ b. get_or work.old (row + (get_or work.old (t + b) 0 - k)) 0) work.old work.new }
-{
-    let mut b = 0;
-    while b < u {
-        work[at + b] = entry_at(work, row, t + b, k);
-        b += 1;
+    let u = mixed.len();
+    for a in 0..u {
+        for b in 0..u {
+            matrix[a * (u + u) + b] = ge[mixed[a] as usize * columns + (plain[b] as usize - k)];
+        }
     }
 }
 
-// The rows of W: row a has the numbers of the row that the place at i + a names, of a matrix at the front with `cols` columns.
-pub fn fill_rows(work: &mut [u16], at: usize, u: usize, i: usize, cols: usize, t: usize, k: usize)
-    requires { (t + u ≤ at) × (i + u ≤ t) × (k * cols ≤ i) × (at + u * (u + u) ≤ length work.old) × ((a : ℕ) → a < u → get_or work.old (i + a) 0 < k) × ((b : ℕ) → b < u → (k ≤ get_or work.old (t + b) 0) × (get_or work.old (t + b) 0 < k + cols)) }
-    ensures { Filled at u u (λ a b. get_or work.old (get_or work.old (i + a) 0 * cols + (get_or work.old (t + b) 0 - k)) 0) work.old work.new }
+/// W and beside it its inverse, in rows.
+pub(crate) fn invert_w(
+    key: &PrivateKey,
+    ge: &[u16],
+    mixed: &[u16],
+    plain: &[u16],
+    matrix: &mut [u16],
+) -> Result<(), Failure>
+    requires formed { WellFormed key.now.parameters.set key.now.bytes.now }
+    requires ge { ge.now ≡ (held key.now).ge }
+    requires ge_len { length ge.now ≡ key.now.parameters.set.k * (key.now.parameters.set.n + key.now.parameters.set.w - key.now.parameters.set.k) }
+    requires mixed { mixed.now ≡ places_i key.now.parameters.set (held key.now) }
+    requires plain { plain.now ≡ places_t key.now.parameters.set (held key.now) }
+    requires whole { length matrix.old ≡ length mixed.now * (length mixed.now + length mixed.now) }
+    ensures inverse { OnOk result (HoldsInverse key.now.parameters.set (held key.now) (length mixed.now) matrix.new) }
+    ensures singular { IfErr result (KeyFails key.now.parameters.set key.now.bytes.now) }
 {
-    let mut a = 0;
-    while a < u {
-        let row = wide(work, i + a) * cols;
-        fill_row(work, at + a * (u + u), u, row, cols, t, k);
-        a += 1;
+    let Set { n, k, w, .. } = key.parameters.set;
+    fill_rows(matrix, ge, mixed, plain, k, n + w - k);
+    match linear::inverse::invert(matrix, mixed.len()) {
+        Ok(()) => Ok(()),
+        Err(_) => Err(Failure::Singular),
     }
-}
-
-// Inverts the matrix of u rows that stands in the work area from `at` on.
-pub fn invert_at(work: &mut [u16], at: usize, u: usize) -> Result<(), Singular>
-    requires { (at + u * (u + u) ≤ length work.old) × (u < 65536) × ((a b : ℕ) → a < u → b < u → get_or work.old (at + (a * (u + u) + b)) 0 < size ten) }
-    ensures { Put at (u * (u + u)) (λ (p : List ℕ). Inverts u (inverted ten u (part at (u * (u + u)) work.old)) p result) work.old work.new }
-{
-    linear::inverse::invert(&mut work[at..at + u * (u + u)], u)
 }

@@ -1,101 +1,61 @@
 // Lists of places that pass a test, rising.
-ghost use Rattle.std.specs.Prelude.{◌≡◌, not, ◌+◌, ◌<◌, ◌≤◌, ltb, length, get_or};
-ghost use Rattle.scheme.specs.Lists.{passing};
-ghost use Rattle.scheme.specs.Keys.{WellFormed, read};
-ghost use Rattle.opening.specs.Area.{matrix_at};
-ghost use Rattle.opening.specs.Given.{KeyGiven};
-ghost use Rattle.opening.specs.Stages.{Pushed, Collected, Keyed, Parted};
+ghost use Rattle.std.specs.Prelude.{◌≡◌, ℕ, Bool, ◌+◌, ◌-◌, ◌<◌, ◌≤◌, length, take};
+ghost use Rattle.scheme.specs.Lists.{passing, inverse_of};
+ghost use Rattle.scheme.specs.Keys.{WellFormed};
+ghost use Rattle.scheme.specs.Opening.{places_i, places_t};
+ghost use Rattle.opening.specs.Held.{held};
+ghost use Rattle.opening.specs.Listing.{Listed};
 
+use crate::key::PrivateKey;
 use sets::Set;
 
-// The place j comes after the r that are there, if the answer is yes. Answers how many there are.
-pub fn keep(work: &mut [u16], at: usize, cap: usize, r: usize, j: usize, yes: bool) -> usize
-    requires { (at + cap ≤ length work.old) × (j < 65536) × (r < 65536) }
-    ensures { Pushed at cap j r work.old yes work.new result }
-{
-    if !yes {
-        return r;
-    }
-    if cap <= r {
-        return r + 1;
-    }
-    work[at + r] = j as u16;
-    r + 1
-}
-
-// Whether the number at a place is below d.
-fn below(work: &[u16], at: usize, d: usize) -> bool
-    requires { at < length work.now }
-    ensures { result ≡ ltb (get_or work.now at 0) d }
-{
-    (work[at] as usize) < d
-}
-
-// The same test, the other way round.
-fn not_below(work: &[u16], at: usize, d: usize) -> bool
-    requires { at < length work.now }
-    ensures { result ≡ not (ltb (get_or work.now at 0) d) }
-{
-    !below(work, at, d)
-}
-
-// Those of the n places from i on whose number in the list is below d come to `at`, at most `cap` of them. Answers how many there are.
-pub fn list_plain(
-    work: &mut [u16],
-    list: usize,
-    d: usize,
-    i: usize,
-    n: usize,
-    at: usize,
-    cap: usize,
+/// Lists the places from `from` up to `to` that pass the test, as many as there is room for. Answers how many pass.
+pub(crate) fn list_places<F: Fn(usize) -> bool>(
+    from: usize,
+    to: usize,
+    passes: F,
+    out: &mut [u16],
 ) -> usize
-    requires { (list + (i + n) ≤ at) × (at + cap ≤ length work.old) × (i + n ≤ 65536) }
-    ensures { Collected at cap (passing (λ j. ltb (get_or work.old (list + j) 0) d) i n) work.old work.new result }
+    requires callable { (j : ℕ) → from ≤ j → j < to → F.pre passes j }
+    requires order { from ≤ to }
+    requires places { to ≤ 65536 }
+    ensures few { result ≤ to - from }
+    ensures listed { (p : ℕ → Bool) → ((j : ℕ) (yes : Bool) → from ≤ j → j < to → F.post passes j yes → yes ≡ p j) → Listed (passing p from (to - from)) out.new result }
 {
-    let mut r = 0;
-    let mut j = 0;
-    while j < n {
-        let yes = below(work, list + (i + j), d);
-        r = keep(work, at, cap, r, i + j, yes);
-        j += 1;
+    let mut count = 0;
+    for j in from..to {
+        if passes(j) {
+            if count < out.len() {
+                out[count] = j as u16;
+            }
+            count += 1;
+        }
     }
-    r
+    count
 }
 
-// The others.
-pub fn list_mixed(
-    work: &mut [u16],
-    list: usize,
-    d: usize,
-    i: usize,
-    n: usize,
-    at: usize,
-    cap: usize,
-) -> usize
-    requires { (list + (i + n) ≤ at) × (at + cap ≤ length work.old) × (i + n ≤ 65536) }
-    ensures { Collected at cap (passing (λ j. not (ltb (get_or work.old (list + j) 0) d)) i n) work.old work.new result }
+/// The places I: those below k that P2 mixes. Answers how many there are.
+pub(crate) fn list_mixed(key: &PrivateKey, second: &[u16], out: &mut [u16]) -> usize
+    requires second { second.now ≡ inverse_of (held key.now).q2 }
+    requires long { length second.now ≡ key.now.parameters.set.n + key.now.parameters.set.w }
+    requires room { length out.old ≡ key.now.parameters.set.k }
+    ensures few { result ≤ key.now.parameters.set.k }
+    ensures places { take result out.new ≡ places_i key.now.parameters.set (held key.now) }
 {
-    let mut r = 0;
-    let mut j = 0;
-    while j < n {
-        let yes = not_below(work, list + (i + j), d);
-        r = keep(work, at, cap, r, i + j, yes);
-        j += 1;
-    }
-    r
+    let Set { n, k, w, .. } = key.parameters.set;
+    let unmixed = n - w;
+    list_places(0, k, |j| unmixed <= second[j] as usize, out)
 }
 
-// The places I and T of the key. Answers u, how many each has.
-pub fn part_places(s: Set, key: &[u8], work: &mut [u16]) -> usize
-    requires { KeyGiven s key.now × WellFormed s key.now × (matrix_at s ≤ length work.old) × Keyed s (read s key.now) work.old }
-    ensures { Parted s (read s key.now) work.new result }
+/// The places T: the first from k on that P2 does not mix, as many as I has.
+pub(crate) fn list_plain(key: &PrivateKey, second: &[u16], out: &mut [u16])
+    requires formed { WellFormed key.now.parameters.set key.now.bytes.now }
+    requires second { second.now ≡ inverse_of (held key.now).q2 }
+    requires long { length second.now ≡ key.now.parameters.set.n + key.now.parameters.set.w }
+    requires as_many { length out.old ≡ length (places_i key.now.parameters.set (held key.now)) }
+    ensures { out.new ≡ places_t key.now.parameters.set (held key.now) }
 {
-    let k = s.k;
-    let total = s.n + s.w;
-    let d = s.n - s.w;
-    let second = k * (total - k);
-    let mixed = second + total + s.n;
-    let u = list_mixed(work, second, d, 0, k, mixed, k);
-    list_plain(work, second, d, k, total - k, mixed + k, u);
-    u
+    let Set { n, k, w, .. } = key.parameters.set;
+    let unmixed = n - w;
+    list_places(k, n + w, |j| (second[j] as usize) < unmixed, out);
 }

@@ -1,57 +1,145 @@
-// Preparing a key: it is read, its places are listed, and W is inverted.
-ghost use Rattle.std.specs.Prelude.{◌≡◌, ◌+◌, ◌-◌, ◌*◌, ◌<◌, ◌≤◌, ◌^◌, length};
-ghost use Rattle.scheme.specs.Keys.{WellFormed, read};
-ghost use Rattle.opening.specs.Area.{Laid, open_room};
-ghost use Rattle.opening.specs.Given.{KeyGiven};
-ghost use Rattle.opening.specs.Stages.{Parted, Solvable, Prepares};
+// Preparing a key: it is judged and read, its places are listed, and W is inverted.
+ghost use Rattle.std.specs.Prelude.{◌≡◌, ℕ, ◌+◌, ◌-◌, ◌*◌, ◌/◌, ◌<◌, ◌≤◌, length, OnOk, IfOk, IfErr};
+ghost use Rattle.bits.specs.Numbers.{numbers16};
+ghost use Rattle.perm.specs.Perm.{Perm};
+ghost use Rattle.scheme.specs.Lists.{inverse_of};
+ghost use Rattle.scheme.specs.Keys.{WellFormed};
+ghost use Rattle.scheme.specs.Opening.{places_i, places_t};
+ghost use Rattle.opening.specs.Area.{key_room};
+ghost use Rattle.opening.specs.Given.{Checked};
+ghost use Rattle.opening.specs.Held.{held};
+ghost use Rattle.opening.specs.Bounds.{Bounds};
+ghost use Rattle.opening.specs.Ending.{KeyFails};
+ghost use Rattle.opening.specs.Inverse.{HoldsInverse};
 
-use crate::area::Area;
-use crate::key::read_key;
-use crate::matrix::{fill_rows, invert_at};
-use crate::places::part_places;
-use linear::inverse;
+use crate::Failure;
+use crate::key::PrivateKey;
+use crate::matrix::invert_w;
+use crate::places::{list_mixed, list_plain};
 use sets::Set;
 
-// What preparing a key answers: it is malformed, W is singular, or all is ready, with u places to solve for.
+/// A well-formed key whose W is regular, and what is computed from it alone, in lent memory.
 #[derive(Clone, Copy)]
-pub enum Prepared {
-    Malformed,
-    Singular,
-    Ready(usize),
+pub struct PreparedKey<'a, 'w> {
+    pub key: PrivateKey<'a>,
+    /// GE by rows
+    pub ge: &'w [u16],
+    /// P1 and P2
+    pub first: &'w [u16],
+    pub second: &'w [u16],
+    /// the places I and T, as many of each
+    pub mixed: &'w [u16],
+    pub plain: &'w [u16],
+    /// in rows: W, and beside it its inverse
+    pub matrix: &'w [u16],
+    pub ghost formed: { Checked key.parameters.set key.bytes.now },
+    pub ghost ge_is: { ge.now ≡ (held key).ge },
+    pub ghost first_is: { first.now ≡ inverse_of (held key).q1 },
+    pub ghost second_is: { second.now ≡ inverse_of (held key).q2 },
+    pub ghost mixed_is: { mixed.now ≡ places_i key.parameters.set (held key) },
+    pub ghost plain_is: { plain.now ≡ places_t key.parameters.set (held key) },
+    pub ghost bounds: { Bounds key.parameters.set (held key) ge.now first.now second.now mixed.now plain.now },
+    pub ghost inverse: { HoldsInverse key.parameters.set (held key) (length mixed.now) matrix.now },
 }
 
-// W and beside it its inverse.
-fn invert_w(
-    s: Set,
-    a: Area,
-    key: &[u8],
-    work: &mut [u16],
-    u: usize,
-) -> Result<(), inverse::Singular>
-    requires { Laid s a × KeyGiven s key.now × WellFormed s key.now × (open_room s ≤ length work.old) × Parted s (read s key.now) work.old u }
-    ensures { Solvable s key.now u work.new result }
+/// The inverse of the list of numbers in the bytes, which is read to `list`.
+pub(crate) fn invert_list(
+    bytes: &[u8],
+    list: &mut [u16],
+    inverse: &mut [u16],
+) -> Result<(), Failure>
+    requires list { length list.old ≡ length bytes.now / 2 }
+    requires inverse { length inverse.old ≡ length bytes.now / 2 }
+    ensures permutation { OnOk result (Perm (numbers16 bytes.now)) }
+    ensures inverse { OnOk result (inverse.new ≡ inverse_of (numbers16 bytes.now)) }
+    ensures refused { IfErr result (λ e. (e ≡ Failure.Malformed) × (Perm (numbers16 bytes.now) → ⊥)) }
 {
-    let matrix = a.matrix;
-    let mixed = a.mixed;
-    let plain = a.plain;
-    let k = s.k;
-    let cols = s.n + s.w - k;
-    fill_rows(work, matrix, u, mixed, cols, plain, k);
-    invert_at(work, matrix, u)
-}
-
-// Prepares the key.
-pub fn prepare(s: Set, a: Area, key: &[u8], work: &mut [u16]) -> Prepared
-    requires { Laid s a × KeyGiven s key.now × (open_room s ≤ length work.old) × (length work.old ≡ s.work) }
-    ensures { Prepares s key.now result work.new }
-{
-    if !read_key(s, key, work) {
-        return Prepared::Malformed;
+    bits::get_numbers(bytes, list);
+    if perm::invert(list, inverse) {
+        Ok(())
+    } else {
+        Err(Failure::Malformed)
     }
-    let u = part_places(s, key, work);
-    let found = invert_w(s, a, key, work, u);
-    let Ok(()) = found else {
-        return Prepared::Singular;
-    };
-    Prepared::Ready(u)
+}
+
+/// P1 and P2, if the key's lists are permutations. There is room for either list in `list`.
+pub(crate) fn invert_lists(
+    key: &PrivateKey,
+    list: &mut [u16],
+    first: &mut [u16],
+    second: &mut [u16],
+) -> Result<(), Failure>
+    requires list { key.now.parameters.set.n + key.now.parameters.set.w ≤ length list.old }
+    requires first { length first.old ≡ key.now.parameters.set.n }
+    requires second { length second.old ≡ key.now.parameters.set.n + key.now.parameters.set.w }
+    ensures permutations { OnOk result (Perm (held key.now).q1 × Perm (held key.now).q2) }
+    ensures first { OnOk result (first.new ≡ inverse_of (held key.now).q1) }
+    ensures second { OnOk result (second.new ≡ inverse_of (held key.now).q2) }
+    ensures refused { IfErr result (KeyFails key.now.parameters.set key.now.bytes.now) }
+{
+    let Set { n, w, .. } = key.parameters.set;
+    invert_list(key.second_list(), &mut list[..n + w], second)?;
+    invert_list(key.first_list(), &mut list[..n], first)
+}
+
+/// The same, if the key is well formed.
+pub(crate) fn judge(
+    key: &PrivateKey,
+    list: &mut [u16],
+    first: &mut [u16],
+    second: &mut [u16],
+) -> Result<(), Failure>
+    requires list { key.now.parameters.set.n + key.now.parameters.set.w ≤ length list.old }
+    requires first { length first.old ≡ key.now.parameters.set.n }
+    requires second { length second.old ≡ key.now.parameters.set.n + key.now.parameters.set.w }
+    ensures formed { OnOk result (WellFormed key.now.parameters.set key.now.bytes.now) }
+    ensures first { OnOk result (first.new ≡ inverse_of (held key.now).q1) }
+    ensures second { OnOk result (second.new ≡ inverse_of (held key.now).q2) }
+    ensures refused { IfErr result (KeyFails key.now.parameters.set key.now.bytes.now) }
+{
+    invert_lists(key, list, first, second)?;
+    if !key.none_zero() {
+        return Err(Failure::Malformed);
+    }
+    if !key.spare_zero() {
+        return Err(Failure::Malformed);
+    }
+    Ok(())
+}
+
+/// Prepares the key in the work area, if it is well formed and W regular. There is room for either of its lists in `list`.
+#[tactic(auto, using(crate::proofs::Permuting::checked_of, crate::proofs::Matrices::square, crate::proofs::Preparing::as_many_of, crate::proofs::Keyed::bounds_of))]
+pub(crate) fn prepare<'a, 'w>(
+    key: &PrivateKey<'a>,
+    work: &'w mut [u16],
+    list: &mut [u16],
+) -> Result<PreparedKey<'a, 'w>, Failure>
+    requires room { key_room key.now.parameters.set ≤ length work.old }
+    requires list { key.now.parameters.set.n + key.now.parameters.set.w ≤ length list.old }
+    ensures set { IfOk result (λ prepared. prepared.key.parameters.set ≡ key.now.parameters.set) }
+    ensures bytes { IfOk result (λ prepared. prepared.key.bytes.now ≡ key.now.bytes.now) }
+    ensures refused { IfErr result (KeyFails key.now.parameters.set key.now.bytes.now) }
+{
+    let Set { n, k, w, .. } = key.parameters.set;
+    let (ge, rest) = work.split_at_mut(k * (n + w - k));
+    let (second, rest) = rest.split_at_mut(n + w);
+    let (first, rest) = rest.split_at_mut(n);
+    judge(key, list, first, second)?;
+    key.unpack_ge(ge);
+    let (mixed, rest) = rest.split_at_mut(k);
+    let u = list_mixed(key, second, mixed);
+    let mixed = &mixed[..u];
+    let (plain, rest) = rest.split_at_mut(u);
+    list_plain(key, second, plain);
+    let matrix = &mut rest[..u * (u + u)];
+    invert_w(key, ge, mixed, plain, matrix)?;
+    Ok(PreparedKey {
+        key: *key,
+        ge,
+        first,
+        second,
+        mixed,
+        plain,
+        matrix,
+    })
 }

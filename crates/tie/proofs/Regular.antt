@@ -49,7 +49,7 @@ module _ (s : Set) (κ : Private) where
   product-numbers y b =
       sum-ext (K s) _ _ u (λ a o. ap (λ (x : El (field_of s)). times (field_of s) x (Wel a b)) (numbers-word y a o))
 
-  singular : (y : ℕ → El (field_of s)) → NonZero (K s) u y → LeftKer (K s) u u Wel y → Singular s κ
+  pub singular : (y : ℕ → El (field_of s)) → NonZero (K s) u y → LeftKer (K s) u u Wel y → Singular s κ
   singular y (p, l, d) h =
       record {
         y = numbers y;

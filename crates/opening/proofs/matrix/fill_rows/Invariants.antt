@@ -1,10 +1,11 @@
--- The first rows are there, and what is read lies before them.
-use Rattle.std.proofs.Common.{◌≡◌, ◌+◌, ◌-◌, ◌*◌, ◌≤◌, length, get_or}
-use Rattle.opening.specs.Stages.{Filled}
+use Rattle.std.proofs.Common.{◌≡◌, ℕ, ◌+◌, ◌-◌, ◌*◌, ◌<◌, get_or}
 use Rattle.opening.proofs.matrix.fill_rows.Given as goal
 
 abbrev pub invariant-loop-a : goal.invariant-loop-a
-invariant-loop-a l = (l.a ≤ l.u) × (length l.work ≡ length l.initial.work) × Filled l.at l.u l.a (λ x y. get_or l.initial.work (get_or l.initial.work (l.i + x) 0 * l.cols + (get_or l.initial.work (l.t + y) 0 - l.k)) 0) l.initial.work l.work
+invariant-loop-a l = (a b : ℕ) → a < l.a → b < l.u → get_or l.matrix (a * (l.u + l.u) + b) 0 ≡ get_or l.ge (get_or l.mixed a 0 * l.columns + (get_or l.plain b 0 - l.k)) 0
 
-abbrev pub decreases-loop-a : goal.decreases-loop-a
-decreases-loop-a l = l.u - l.a
+abbrev pub invariant-loop-b : goal.invariant-loop-b
+invariant-loop-b l = record {
+  rows : (a b : ℕ) → a < l.a → b < l.u → get_or l.matrix (a * (l.u + l.u) + b) 0 ≡ get_or l.ge (get_or l.mixed a 0 * l.columns + (get_or l.plain b 0 - l.k)) 0;
+  row : (b : ℕ) → b < l.b → get_or l.matrix (l.a * (l.u + l.u) + b) 0 ≡ get_or l.ge (get_or l.mixed l.a 0 * l.columns + (get_or l.plain b 0 - l.k)) 0;
+}

@@ -1,9 +1,11 @@
-use Rattle.std.proofs.Common.{rules}
-use Rattle.opening.proofs.Collecting.{pushed-few, collected-none, plain_more}
+use Rattle.std.proofs.Common.{rules, ◌-◌, ltb, get_or}
+use Rattle.opening.proofs.Keyed.{given}
+use Rattle.opening.proofs.Parting.{plain-listed}
 use Rattle.opening.proofs.places.list_plain.Goals as goal
 
-pub loop-j-init : goal.loop-j-init
-loop-j-init c = (search rules, search rules, search rules, collected-none _ _ _ _ _)
-
-pub loop-j-preserved : goal.loop-j-preserved
-loop-j-preserved c = (search rules, search rules, pushed-few _ _ _ _ _ _ _ _ _ c.loop-j.invariant.2 c.keep-r.ensures, plain_more _ _ _ _ _ _ _ _ _ _ c.requires.0 c.loop-j-test.true c.requires.1 c.loop-j.invariant.3 _ c.below-yes.ensures _ _ c.keep-r.ensures)
+pub returns : goal.returns
+returns c =
+    let key = c.args.key.now in
+    let s = key.parameters.set in
+    plain-listed s key.bytes.now (given key) c.requires.formed c.args.second.now c.list_places.new.out c.list_places.result c.requires.second (search rules)
+    (c.list_places.ensures.listed (λ j. ltb (get_or c.args.second.now j 0) (s.n - s.w)) (λ j yes a b post. search rules))

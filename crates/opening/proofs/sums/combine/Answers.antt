@@ -1,6 +1,6 @@
--- Onto zeros.
-use Rattle.opening.proofs.RowSums.{sum-clear}
+use Rattle.std.proofs.Common.{rules}
+use Rattle.opening.proofs.Combining.{row_added}
 use Rattle.opening.proofs.sums.combine.Goals as goal
 
-pub returns : goal.returns
-returns c = sum-clear _ _ c.args.rows _ _ _ _ _ _ _ c.requires.0 c.requires.1 c.requires.2 c.clear.ensures c.add_rows.ensures
+pub loop-i-preserved : goal.loop-i-preserved
+loop-i-preserved c = row_added _ c.args.factors.now _ c.loop-i.out c.add_multiple.new.row c.loop-i.i c.args.stride _ _ (search rules) (search rules) c.add_multiple.ensures c.loop-i.invariant
