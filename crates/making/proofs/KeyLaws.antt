@@ -9,7 +9,7 @@ use Rattle.gf.specs.Field.{Modulus, inverse}
 use Rattle.gf.specs.Ten.{ten}
 use Rattle.perm.specs.Perm.{Perm, inverted}
 use Rattle.perm.proofs.Permutations.{inverse-unique, entries-low}
-use Rattle.perm.proofs.Inverting.{length-inverted, inverted-inverse}
+use Rattle.perm.proofs.Inverting.{inverted-inverse}
 use Rattle.linear.specs.Matrix.{entry}
 use Rattle.scheme.specs.Lists.{inverse_of}
 use Rattle.scheme.specs.Setup.{inverses}
@@ -48,9 +48,6 @@ inverse_any p q l perm =
 pub inverse_end : (p q l : List ℕ) (i : ℕ) → l ≡ turns (λ k r. set r (get_or p k 0) k) i q → i ≡ length p → length q ≡ length p → Perm p → l ≡ inverse_of p
 unfolding inverted
 inverse_end p q l i e z long perm = e ∙ rw z (inverse_any p q long perm)
-
-pub length-inverse : (p : List ℕ) → length (inverse_of p) ≡ length p
-length-inverse p = length-inverted p (replicate (length p) 0) ∙ length-replicate (length p) 0
 
 -- ---- the first byte
 pub first_byte : (l : List ℕ) (b : ℕ) → length l ≡ 1 → set l 0 b ≡ b ∷ []

@@ -1,6 +1,5 @@
 -- The block search: what is left to search, behind the blocks that stand, answers what the whole does.
 use Rattle.std.proofs.Common.{◌≡◌, refl, sym, ap, ◌∙◌, ℕ, suc, ◌+◌, ◌-◌, ◌*◌, ◌≤◌, ◌<◌, List, [], ◌∷◌, ◌++◌, length, get_or, take, drop, append-nil, append_assoc, arith}
-use native.Mathlib.Nat.{sub-zero}
 use lib.Seq.{take-length, take_all}
 use borrow.Author.Tests.{eq-eqb, ne_eqb}
 use Rattle.lists.proofs.Loops.{left-suc}
@@ -28,9 +27,6 @@ blocks-skip w a b c d l e = rw (eq-eqb (det ten a b c d) 0 e)
 blocks-take : (w a b c d : ℕ) (l : List ℕ) → (det ten a b c d ≡ 0 → ⊥) → blocks ten (suc w) (a ∷ b ∷ c ∷ d ∷ l) ≡ with_block a b c d (blocks ten w l)
 unfolding blocks
 blocks-take w a b c d l e = rw (ne_eqb (det ten a b c d) 0 e)
-
-pub skipped_none : (x : List ℕ) → Skipped x x
-skipped_none x = record { same = λ w. refl }
 
 abbrev det_of : List ℕ → ℕ
 det_of l = det ten (get_or l 0 0) (get_or l 1 0) (get_or l 2 0) (get_or l 3 0)
@@ -64,19 +60,12 @@ abbrev prefixed : List ℕ → Found → Found
 prefixed p (found l) = found (p ++ l)
 prefixed p none = none
 
-prefixed-none : (x : Found) → x ≡ prefixed [] x
-prefixed-none (found l) = refl
-prefixed-none none = refl
-
 prefixed-block : (p : List ℕ) (a b c d : ℕ) (x : Found) → prefixed p (with_block a b c d x) ≡ prefixed (p ++ (a ∷ b ∷ c ∷ d ∷ [])) x
 prefixed-block p a b c d (found l) = ap found (sym (append_assoc p (a ∷ b ∷ c ∷ d ∷ []) l))
 prefixed-block p a b c d none = refl
 
 pub record Searching (x : List ℕ) (w i : ℕ) (l rest : List ℕ) : Type 0 where
   pub left : blocks ten w x ≡ prefixed (take (4 * i) l) (blocks ten (w - i) rest)
-
-pub searching_none : (x : List ℕ) (w : ℕ) (l : List ℕ) → Searching x w 0 l x
-searching_none x w l = record { left = rw sub-zero (prefixed-none (blocks ten w x)) }
 
 module _ (x : List ℕ) (w i : ℕ) (l rest : List ℕ) (v : Searching x w i l rest) where
   pub searching_fails : i < w → NoBlock rest → blocks ten w x ≡ none

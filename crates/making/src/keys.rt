@@ -74,7 +74,7 @@ pub fn put_public(parameters: ParameterSet, ge: &[u16], public: &mut [u8])
     bits::pack(ge, parameters.set.m, packed);
 }
 
-/// The inverse of a permutation, whatever stood there.
+/// The inverse of a permutation, whatever stood there. `perm::invert` would also test the entries, which are secret.
 #[tactic(auto, using(lists::proofs::Loops::turning))]
 fn invert(order: &[u16], inverse: &mut [u16])
     requires permutation { Perm order.now }
