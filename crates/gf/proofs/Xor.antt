@@ -1,7 +1,7 @@
 -- The laws of ⊕: an abelian group, in which each number is its own negative; and how it goes with digits.
 use mathlib.Core.Path.{◌≡◌, refl, sym, ap, ap₂, ◌∙◌}
-use Prim.Native.Nat.{ℕ, zero, suc, ◌+◌, ◌*◌, ◌/◌, ◌%◌, ◌^◌, ◌≤◌, ◌<◌}
-use native.Mathlib.Nat.{mod-lt, zero-lt-suc, not-suc-le-zero, le_of_suc-le-suc, zero-mul, one-mul, add-zero, mul-le-mul_right}
+use Prim.Native.Nat.{ℕ, zero, suc, ◌+◌, ◌*◌, ◌/◌, ◌%◌, ◌^◌, ◌<◌}
+use native.Mathlib.Nat.{mod-lt, zero-lt-suc, not-suc-le-zero, le_of_suc-le-suc, zero-mul, one-mul, add-zero}
 use lib.Arith.{bin_ind, digits_mod}
 use lib.Bits.{bit_xor, differ, xor_step, xor_comm, xor_self, xor_zero_r, xor_shr, xor_mod, xor_lt, xor_block, xor_shifted}
 use Rattle.gf.specs.Field.{◌⊕◌}
@@ -114,7 +114,3 @@ bit-out f f0 (suc (suc x)) v h = absurd (no_digit h)
 
 pub odd : (a b v : ℕ) → (a ⊕ b) % 2 * v ≡ (a % 2 * v) ⊕ (b % 2 * v)
 odd a b v = ap (λ (x : ℕ). x * v) (add-mod a b 1) ∙ bit-left (a % 2) (b % 2) v (mod-lt a two) (mod-lt b two)
-
--- a digit times a number is at most the number
-pub digit-le : (x v : ℕ) → x % 2 * v ≤ v
-digit-le x v = rw (one-mul v) at (mul-le-mul_right v (le_of_suc-le-suc (mod-lt x two)))

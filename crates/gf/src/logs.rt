@@ -63,7 +63,8 @@ const LOGS: [u16; 1024] = [
 
 // the i with α to the i = a
 pub fn log_at(a: usize) -> u16
-    requires { (0 < a) × (a < size ten) }
+    requires some { 0 < a }
+    requires within { a < size ten }
     ensures { Logarithm ten a result }
 {
     LOGS[a]

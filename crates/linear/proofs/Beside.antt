@@ -19,12 +19,6 @@ use Rattle.linear.proofs.Steps.{row_within}
 use Rattle.linear.proofs.Entries.{rows-off}
 
 -- ---- what the code's loops store
-pub identity-same : (i j : ℕ) → i ≡ j → 1 ≡ identity i j
-identity-same i j e = rw (eq-eqb i j e)
-
-pub identity-other : (i j : ℕ) → (i ≡ j → ⊥) → 0 ≡ identity i j
-identity-other i j d = rw (ne_eqb i j d)
-
 pub identity-more : (at i j : ℕ) (l₀ l : List ℕ) (v : ℕ) → l ≡ turns (identity_at at i) j l₀ → v ≡ identity i j → set l (at + j) v ≡ turns (identity_at at i) (j + 1) l₀
 identity-more at i j l₀ l v e q = rw q (turns_more _ j l₀ l e)
 

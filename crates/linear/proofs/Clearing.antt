@@ -1,28 +1,19 @@
 -- The loops that clear a column: the rows before the pivot's, and those after it.
 use mathlib.Core.Path.{◌≡◌, refl, sym, ap, ◌∙◌}
 use mathlib.Core.List.{List}
-use Prim.Native.Nat.{ℕ, ◌+◌, ◌*◌, ◌<◌, ◌≤◌}
+use Prim.Native.Nat.{ℕ, ◌+◌, ◌<◌, ◌≤◌}
 use native.Mathlib.Omega.{arith}
 use Rattle.lists.specs.Loops.{turns}
 use Rattle.lists.proofs.Loops.{turns-none, turns_more}
 use Rattle.gf.specs.Field.{Modulus}
 use Rattle.linear.specs.Columns.{Lead, Spared, Cleared}
 use Rattle.linear.specs.Elimination.{Work, Did, clear_row, clear_next, clear_column}
-use Rattle.linear.proofs.Steps.{front-within, clear_self}
+use Rattle.linear.proofs.Steps.{clear_self}
 use Rattle.linear.proofs.Keeps.{lead-clear}
 
 -- ---- row c is none of them
 pub spared : (c from to i : ℕ) → Spared c from to → from ≤ i → i < to → i ≡ c → ⊥
 spared c from to i S h g = S.other i h g
-
-pub spared-before : (c : ℕ) → Spared c 0 c
-spared-before c = record { other = λ i h g e. omega arith }
-
-pub spared-after : (c rows : ℕ) → Spared c (c + 1) rows
-spared-after c rows = record { other = λ i h g e. omega arith }
-
-pub before-within : (c rows cols n₀ n : ℕ) → c < rows → rows * cols ≤ n₀ → n ≡ n₀ → c * cols ≤ n
-before-within c rows cols n₀ n h fits e = front-within c rows cols n₀ n (omega arith) fits e
 
 -- ---- one row more
 clear-more : (F : Modulus) (cols c i : ℕ) (w₀ : Work) (m : List ℕ) (ops : ℕ) (l : List ℕ) (k : ℕ) → ◌≡◌ {A = Work} (record { mat = m; ops = ops }) (turns (clear_next F cols c) i w₀)

@@ -11,17 +11,11 @@ use Rattle.gf.specs.Runs.{scale_run}
 use Rattle.gf.specs.Ten.{ten}
 use Rattle.gf.proofs.Runs.{scale-off}
 use Rattle.gf.proofs.Ten.{ten-field}
-use Rattle.linear.specs.Matrix.{Matrix}
 use Rattle.linear.specs.Columns.{Lead, Reduced}
 use Rattle.linear.specs.Elimination.{Did, pivot_row, place_pivot, clear_row, reduce_column}
 use Rattle.linear.proofs.Reduction.{own, clear-elsewhere, column-reduced}
 use Rattle.linear.proofs.Pivot.{place-reduced}
 use Rattle.linear.proofs.Search.{pivot-usable}
-
--- nothing is done yet
-pub reduced-none : (F : Modulus) (rows cols : ℕ) (l : List ℕ) → Matrix F rows cols l → Reduced F rows cols 0 l
-reduced-none F rows cols l M =
-    record { matrix = M; one_at = λ j h. absurd (omega arith); zero_off = λ i j hi h. absurd (omega arith) }
 
 -- the pivot's row has its zeros before column c wherever it comes from
 pub lead-place : (F : Modulus) (rows cols c p most : ℕ) (m l : List ℕ) (k : ℕ) → Reduced F rows cols c m → c ≤ p → p < rows → c < cols → Did (place_pivot cols p c m) most l k → Lead cols c l

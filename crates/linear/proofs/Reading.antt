@@ -4,14 +4,13 @@ use mathlib.Core.List.{List}
 use Prim.Native.Nat.{ℕ, ◌+◌, ◌<◌, ◌≤◌}
 use native.Mathlib.Omega.{arith}
 use borrow.Author.Tests.{eq-eqb, ne_eqb, lt-ltb, le-ltb}
-use Rattle.lists.specs.Loops.{tab}
 use Rattle.gf.specs.Ten.{ten}
 use Rattle.std.specs.Prelude.{Ok, Err}
 use Rattle.linear.specs.declared.inverse.Singular.{Singular}
 use Rattle.linear.specs.Matrix.{Matrix, entry}
-use Rattle.linear.specs.Elimination.{Done, Ended, eliminated}
+use Rattle.linear.specs.Elimination.{Ended, eliminated}
 use Rattle.linear.specs.Inverse.{LeftHalf, beside, inverted, Inverts}
-use Rattle.linear.specs.Kernel.{kernel_at, Kernel}
+use Rattle.linear.specs.Kernel.{kernel_at}
 use Rattle.linear.proofs.Beside.{beside-matrix}
 
 module _ (cols r : ℕ) (l : List ℕ) (j : ℕ) where
@@ -23,10 +22,6 @@ module _ (cols r : ℕ) (l : List ℕ) (j : ℕ) where
 
   pub kernel-zero : r ≤ j → (j ≡ r → ⊥) → 0 ≡ kernel_at cols r l j
   kernel-zero h d = rw (le-ltb j r h, ne_eqb j r d)
-
--- the vector is read from what elimination left
-pub kernel-read : (cols limit : ℕ) (d : Done) (l v : List ℕ) (r k : ℕ) → Ended d limit l r k → v ≡ tab cols (kernel_at cols r l) → Kernel cols d l v r
-kernel-read cols limit d l v r k e q = record { mat = e.mat; vector = q ∙ rw (e.mat, e.cols); cols_done = e.cols }
 
 module _ (n : ℕ) (l₀ l₁ : List ℕ) (b : l₁ ≡ beside n l₀) where
   pub invert-ready : LeftHalf ten n l₀ → Matrix ten n (n + n) l₁

@@ -1,5 +1,8 @@
 // Linear algebra over the field, on matrices that lie row after row in a lent slice: elimination, the inverse of a
 // square matrix, a vector of the kernel.
+//
+// Kept as a slice with `rows` and `cols` beside it, and no struct of the three: a method with `&mut self` may leave other numbers of rows
+// and columns, so each step would have to say, one clause more, that they stay.
 #![tactic(auto)]
 
 ghost use Rattle.std.specs.Prelude.{◌≡◌, ◌≢◌, ◌+◌, ◌*◌, ◌<◌, ◌≤◌, length, IfSome, IfNone};
