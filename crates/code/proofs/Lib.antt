@@ -18,4 +18,3 @@ mod Settling
 mod Locating
 mod Valuing
 mod Deciding
-mod InArea

@@ -5,4 +5,3 @@ pub mod Area
 pub mod Decoding
 pub mod Generator
 pub mod Stages
-pub mod Inside

@@ -4,18 +4,16 @@
 ghost use Rattle.std.specs.Prelude.{◌≡◌, ℕ, ◌+◌, ◌-◌, ◌*◌, ◌≤◌, ◌<◌, length, get_or};
 ghost use Rattle.gf.specs.Field.{size, order, alpha};
 ghost use Rattle.gf.specs.Ten.{ten};
-ghost use Rattle.code.specs.Area.{rest_room, decoding_room};
+ghost use Rattle.code.specs.Area.{decoding_room};
 ghost use Rattle.code.specs.Decoding.{Decodes};
 ghost use Rattle.code.specs.Generator.{generator};
 ghost use Rattle.code.specs.Stages.{Powers, Summed, Suspects, Values};
 
-pub use inside::decode_in;
 use places::find_places;
 use rooms::Rooms;
 use sums::{all_zero, power_sums};
 use values::{add_values, find_values};
 
-mod inside;
 mod places;
 mod rooms;
 mod root;
@@ -82,28 +80,24 @@ fn correct(
     apply(word, sums, places, there, &values[..places.len()], products)
 }
 
-// Decodes a word in place, in a matrix and the rest of the work area.
-fn decode_parts(
-    word: &mut [u16],
-    t: usize,
-    matrix: &mut [u16],
-    rest: &mut [u16],
-) -> Result<(), Undecodable>
+// Decodes a word in place: it becomes the code word within t places, where there is one, and else stays as it was. Of
+// the work area `decoding_room` numbers are used, whatever they hold.
+pub fn decode(word: &mut [u16], t: usize, work: &mut [u16]) -> Result<(), Undecodable>
     requires half { t + t ≤ length word.old }
     requires order { length word.old ≤ order ten }
     requires small { (i : ℕ) → i < length word.old → get_or word.old i 0 < size ten }
-    requires square { length matrix.old ≡ t * (t + 1) }
-    requires room { rest_room (length word.old) t ≤ length rest.old }
+    requires room { decoding_room (length word.old) t ≤ length work.old }
     ensures { Decodes ten (length word.old) t word.old result word.new }
 {
     let Rooms {
+        matrix,
         sums,
         powers,
         locator,
         values,
         points,
         places,
-    } = Rooms::cut(word.len(), t, rest);
+    } = Rooms::cut(word.len(), t, work);
     power_sums(word, 1, sums, powers);
     if all_zero(sums) {
         return Ok(());
@@ -120,19 +114,6 @@ fn decode_parts(
         &mut products[..r],
         &mut locator[..r + 1],
     )
-}
-
-// Decodes a word in place: it becomes the code word within t places, where there is one, and else stays as it was. Of
-// the work area `decoding_room` numbers are used, whatever they hold.
-pub fn decode(word: &mut [u16], t: usize, work: &mut [u16]) -> Result<(), Undecodable>
-    requires half { t + t ≤ length word.old }
-    requires order { length word.old ≤ order ten }
-    requires small { (i : ℕ) → i < length word.old → get_or word.old i 0 < size ten }
-    requires room { decoding_room (length word.old) t ≤ length work.old }
-    ensures { Decodes ten (length word.old) t word.old result word.new }
-{
-    let (matrix, rest) = work.split_at_mut(t * (t + 1));
-    decode_parts(word, t, matrix, rest)
 }
 
 // Writes the coefficients of the product of (x - α^i), i = 1..s, into s + 1 numbers.

@@ -1,9 +1,11 @@
-// The work area of decoding behind the matrix, cut into a part for each list that decoding keeps.
-ghost use Rattle.std.specs.Prelude.{◌≡◌, ◌+◌, ◌≤◌, length};
-ghost use Rattle.code.specs.Area.{rest_room};
+// The work area of decoding, cut into a part for each list that decoding keeps.
+ghost use Rattle.std.specs.Prelude.{◌≡◌, ◌+◌, ◌*◌, ◌≤◌, length};
+ghost use Rattle.code.specs.Area.{decoding_room};
 
 // For a word of n places, of which t may be wrong.
 pub struct Rooms<'w> {
+    // the equations
+    pub matrix: &'w mut [u16],
     // the 2t power sums of the word, and as many powers of α
     pub sums: &'w mut [u16],
     pub powers: &'w mut [u16],
@@ -17,7 +19,8 @@ pub struct Rooms<'w> {
 
 impl<'w> Rooms<'w> {
     pub fn cut(n: usize, t: usize, work: &'w mut [u16]) -> Rooms<'w>
-        requires room { rest_room n t ≤ length work.old }
+        requires room { decoding_room n t ≤ length work.old }
+        ensures matrix { length result.matrix.now ≡ t * (t + 1) }
         ensures sums { length result.sums.now ≡ t + t }
         ensures powers { length result.powers.now ≡ t + t }
         ensures locator { length result.locator.now ≡ t + 1 }
@@ -25,12 +28,14 @@ impl<'w> Rooms<'w> {
         ensures points { length result.points.now ≡ n }
         ensures places { length result.places.now ≡ t }
     {
-        let (sums, rest) = work.split_at_mut(t + t);
+        let (matrix, rest) = work.split_at_mut(t * (t + 1));
+        let (sums, rest) = rest.split_at_mut(t + t);
         let (powers, rest) = rest.split_at_mut(t + t);
         let (locator, rest) = rest.split_at_mut(t + 1);
         let (values, rest) = rest.split_at_mut(n);
         let (points, rest) = rest.split_at_mut(n);
         Rooms {
+            matrix,
             sums,
             powers,
             locator,
