@@ -34,6 +34,7 @@ test:
 	$(MAKE) --no-print-directory compare
 	$(LINKED) cargo test --quiet --release --offline --manifest-path compare/Cargo.toml
 	tests/c-interface
+	tests/stack-residue
 	tests/rust-bindings
 	tests/install
 	scripts/build-program sizes setup seal open

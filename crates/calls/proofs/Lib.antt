@@ -4,3 +4,4 @@ pub mod SetupLaws
 pub mod SealLaws
 pub mod OpenLaws
 pub mod Counts
+pub mod Zero

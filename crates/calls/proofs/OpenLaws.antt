@@ -1,182 +1,99 @@
 -- The promises of opening and unwrapping, case by case.
 use mathlib.Core.Path.{◌≡◌, refl, sym, ap, ◌∙◌}
-use mathlib.Core.Bool.{Bool, true, false, not}
+use mathlib.Core.Bool.{Bool, true, false, ◌&&◌}
 use mathlib.Core.List.{List, [], ◌∷◌}
-use Prim.Native.Nat.{ℕ, ◌-◌, ◌≤◌, ◌<◌}
-use native.Mathlib.Nat.{sub-zero}
+use Prim.Native.Nat.{ℕ, ◌+◌, ◌-◌, ◌≤◌}
 use native.Mathlib.Omega.{arith}
-use lib.Dec.{eqb}
-use lib.ListN.{length, get_or, take}
-use borrow.Author.Tests.{eq-eqb, ne_eqb, le-leb, lt-leb, eqb-true, not-true, not-false}
+use lib.Dec.{leb}
+use lib.ListN.{length, take, replicate, length-replicate, replicate-append-replicate}
+use lib.Seq.{take_at}
+use borrow.Author.Tests.{eq-eqb, ne_eqb}
+use Rattle.std.specs.Prelude.{Some, Ok, Err}
 use Rattle.sets.specs.declared.Set.{Set}
-use Rattle.std.specs.Prelude.{Some, None, Result, Ok, Err}
-use Rattle.sets.specs.Table.{set_of}
 use Rattle.scheme.specs.Answers.{Opened as Disclosed}
-use Rattle.scheme.specs.declared.Refusal.TheVariants.{UnknownSet, WrongLength, WrongSecret, NotOpened, Malformed as AnswerMalformed, Singular as AnswerSingular}
+use Rattle.scheme.specs.declared.Refusal.{Refusal}
+use Rattle.scheme.specs.declared.Refusal.TheVariants.{UnknownSet, WrongLength, FewMultipliers, FewElements, NoWindow, Dependent, Malformed, Singular, ZeroValues, NotOpened, WrongSecret}
 use Rattle.scheme.specs.Opening.{Opens}
-use Rattle.scheme.specs.Calls.{zeroed, open_lengths, Opening, GivesSecret, OpenOf, OpenEnds, UnwrapOf, UnwrapEnds}
-use Rattle.opening.specs.declared.Failure.{Failure}
-use Rattle.opening.specs.declared.Failure.TheVariants as F
-use Rattle.opening.specs.Ending.{OpenGiven, OpensAs}
-use Rattle.calls.specs.Given.{Serves, OpenServes, DiscloseGiven}
-use Rattle.calls.specs.Ends.{OpenedWiped, Withheld, HandedOut}
-use Rattle.calls.proofs.Rows.{both}
-use Rattle.calls.proofs.SetupLaws.{zeroed-as}
-
--- ---- the lengths
-module _ (s : Set) (key cipher work : ℕ) where
-  pub other_key : (key ≡ s.private → ⊥) → false ≡ open_lengths s key cipher work
-  other_key h = rw (ne_eqb key s.private h)
-
-  module _ (a : key ≡ s.private) where
-    pub other-cipher : (cipher ≡ s.cipher → ⊥) → false ≡ open_lengths s key cipher work
-    other-cipher h = rw (eq-eqb key s.private a, ne_eqb cipher s.cipher h)
-
-    module _ (b : cipher ≡ s.cipher) where
-      pub other-work : (work ≡ s.work → ⊥) → false ≡ open_lengths s key cipher work
-      other-work h = rw (eq-eqb key s.private a, eq-eqb cipher s.cipher b, ne_eqb work s.work h)
-
-      pub all_right : work ≡ s.work → true ≡ open_lengths s key cipher work
-      all_right h = rw (eq-eqb key s.private a, eq-eqb cipher s.cipher b, eq-eqb work s.work h)
+use Rattle.scheme.specs.Calls.{zeroed, Untouched, open_lengths, OpenRefuses, OpenCase, Opening, GivesSecret, OpenOf, OpenEnds, UnwrapOf, UnwrapEnds}
+use Rattle.calls.specs.Given.{NamesSet, NamesNone}
 
 -- ---- past the first checks
+-- the front of a message that is opened; of one that is refused, zeros
+take-zeroed : (l m : List ℕ) → length m ≤ length l → take (length m) (zeroed l) ≡ zeroed m
+take-zeroed l m h =
+    let j : ℕ = length l - length m in
+    let n : length l ≡ length m + j = omega arith in
+    ap (λ (k : ℕ). take (length m) (replicate k 0)) n ∙ ap (take (length m)) (sym (replicate-append-replicate (length m) j 0)) ∙ take_at (replicate (length m) 0) (replicate j 0) (length m) (length-replicate (length m) 0)
 
--- as many bytes of the message as the secret has, copied over it
-pub handed : (message secret secret' : List ℕ) → length secret ≤ length message
-    → secret' ≡ take (length secret - 0) message → HandedOut message secret (Ok tt) secret'
-handed message secret secret' h q = record { answer = refl; first = q ∙ ap (λ (n : ℕ). take n message) (sub-zero (length secret)) }
+module _ (s : Set) (key cipher secret : List ℕ) where
+  abbrev Gives : List ℕ → Type 0
+  Gives = GivesSecret s key cipher (length secret)
 
-module _ (s : Set) (key cipher work : List ℕ) (r : Result Unit Failure) (msg work₁ : List ℕ) where
-  pub opened-wiped : OpensAs s key cipher r msg → (work₂ : List ℕ) → work₁ ≡ zeroed work₂ → length work₂ ≡ length work → OpenedWiped s key cipher work r msg work₁
-  opened-wiped o work₂ z e = record { opens = o; wiped = z ∙ zeroed-as work work₂ e }
+  refuses : (e : Refusal) → OpenRefuses s key (Opens s key cipher) e → OpenRefuses s key Gives e
+  refuses Malformed o = o
+  refuses Singular o = o
+  refuses NotOpened (w, n, o) = (w, n, λ l (m, p, q). o m p)
+  refuses UnknownSet o = absurd o
+  refuses WrongLength o = absurd o
+  refuses FewMultipliers o = absurd o
+  refuses FewElements o = absurd o
+  refuses NoWindow o = absurd o
+  refuses Dependent o = absurd o
+  refuses ZeroValues o = absurd o
+  refuses WrongSecret o = absurd o
 
-  module _ (w : OpenedWiped s key cipher work r msg work₁) where
-    -- the refusals, whatever the output is
-    module _ (Gives : List ℕ → Type 0) (out out₁ : List ℕ) (same : length out₁ ≡ length out) (b : Disclosed) (out₂ : List ℕ) where
-      pub is-malformed : r ≡ Err F.Malformed → Withheld AnswerMalformed b out₁ out₂ → Opening s key cipher Gives out work b out₂ work₁
-      is-malformed e f =
-          let o : OpensAs s key cipher (Err F.Malformed) msg = rw e at w.opens in
-          record { case = rw f.answer (o, f.nothing ∙ zeroed-as out out₁ same); wiped = w.wiped }
+  case-front : (msg msg₁ : List ℕ) → length secret ≤ length msg → (a : Disclosed) → OpenCase s key (Opens s key cipher) msg a msg₁
+      → OpenCase s key Gives secret a (take (length secret) msg₁)
+  case-front msg msg₁ h (Ok done) (w, n, o) = (w, n, (msg₁, o, refl))
+  case-front msg msg₁ h (Err e) (o, z) = (refuses e o, ap (take (length secret)) z ∙ take-zeroed msg secret h)
 
-      pub is-singular : r ≡ Err F.Singular → Withheld AnswerSingular b out₁ out₂ → Opening s key cipher Gives out work b out₂ work₁
-      is-singular e f =
-          let o : OpensAs s key cipher (Err F.Singular) msg = rw e at w.opens in
-          record { case = rw f.answer ((o.0, o.1), f.nothing ∙ zeroed-as out out₁ same); wiped = w.wiped }
+  pub unwrapped : (msg msg₁ work work₁ : List ℕ) (a : Disclosed) → Opening s key cipher (Opens s key cipher) msg work a msg₁ work₁
+      → length secret ≤ length msg → (secret₁ : List ℕ) → secret₁ ≡ take (length secret) msg₁
+      → Opening s key cipher (GivesSecret s key cipher (length secret)) secret work a secret₁ work₁
+  unwrapped msg msg₁ work work₁ a o h secret₁ q =
+      record { case = rw q (case-front msg msg₁ h a o.case); wiped = o.wiped }
 
-      not_opened : ((l : List ℕ) → Gives l → (m : List ℕ) × Opens s key cipher m) → r ≡ Err F.NotOpened → Withheld NotOpened b out₁ out₂ → Opening s key cipher Gives out work b out₂ work₁
-      not_opened t e f =
-          let o : OpensAs s key cipher (Err F.NotOpened) msg = rw e at w.opens in
-          record {
-            case = rw f.answer ((o.0, o.1, λ l g. o.2 (t l g).0 (t l g).1), f.nothing ∙ zeroed-as out out₁ same);
-            wiped = w.wiped;
-          }
+-- ---- the first checks
+untouched : (e : Refusal) (out work : List ℕ) → Untouched e out work (Err e) out work
+untouched e out work = record { answers = refl; same_out = refl; same_work = refl }
 
-    pub is-message : (out : List ℕ) → r ≡ Ok tt → Opening s key cipher (Opens s key cipher) out work (Ok tt) msg work₁
-    is-message out e =
-        let o : OpensAs s key cipher (Ok tt) msg = rw e at w.opens in
-        record { case = (o.0, o.1, o.2); wiped = w.wiped }
+pub open-refused : (key cipher out work : List ℕ) (e : Refusal) → NamesNone key e → OpenEnds key cipher out work (Err e) out work
+open-refused [] cipher out work e q = rw q (untouched WrongLength out work)
+open-refused (byte ∷ key) cipher out work e (n, q) = rw (n, q) (untouched UnknownSet out work)
 
-    pub is-not : (out : List ℕ) → length msg ≡ length out → (b : Disclosed) (out₂ : List ℕ) → r ≡ Err F.NotOpened → Withheld NotOpened b msg out₂ → Opening s key cipher (Opens s key cipher) out work b out₂ work₁
-    is-not out same b out₂ e f = not_opened (Opens s key cipher) out msg same b out₂ (λ l g. (l, g)) e f
+pub unwrap-refused : (key cipher out work : List ℕ) (e : Refusal) → NamesNone key e → UnwrapEnds key cipher out work (Err e) out work
+unwrap-refused [] cipher out work e q = rw q (untouched WrongLength out work)
+unwrap-refused (byte ∷ key) cipher out work e (n, q) = rw (n, q) (untouched UnknownSet out work)
 
-    module _ (secret : List ℕ) (b : Disclosed) (secret₂ : List ℕ) where
-      abbrev Gives : List ℕ → Type 0
-      Gives = GivesSecret s key cipher (length secret)
+open-past : (s : Set) (key cipher out work : List ℕ) (b : Disclosed) (out₂ work₂ : List ℕ) → NamesSet key s → OpenOf (Some s) key cipher out work b out₂ work₂ → OpenEnds key cipher out work b out₂ work₂
+open-past s [] cipher out work b out₂ work₂ h o = absurd h
+open-past s (byte ∷ key) cipher out work b out₂ work₂ h o = rw h o
 
-      pub secret-message : r ≡ Ok tt → HandedOut msg secret b secret₂ → Opening s key cipher (GivesSecret s key cipher (length secret)) secret work b secret₂ work₁
-      secret-message e f =
-          let o : OpensAs s key cipher (Ok tt) msg = rw e at w.opens in
-          record { case = rw f.answer (o.0, o.1, (msg, o.2, f.first)); wiped = w.wiped }
+unwrap-past : (s : Set) (key cipher out work : List ℕ) (b : Disclosed) (out₂ work₂ : List ℕ) → NamesSet key s → UnwrapOf (Some s) key cipher out work b out₂ work₂ → UnwrapEnds key cipher out work b out₂ work₂
+unwrap-past s [] cipher out work b out₂ work₂ h o = absurd h
+unwrap-past s (byte ∷ key) cipher out work b out₂ work₂ h o = rw h o
 
-      pub secret-malformed : r ≡ Err F.Malformed → Withheld AnswerMalformed b secret secret₂ → Opening s key cipher (GivesSecret s key cipher (length secret)) secret work b secret₂ work₁
-      secret-malformed e f = is-malformed Gives secret secret refl b secret₂ e f
+module _ (s : Set) (key cipher work : List ℕ) (t : Bool) (is : t ≡ open_lengths s (length key) (length cipher) (length work)) where
+  module _ (h : t ≡ true) where
+    right : open_lengths s (length key) (length cipher) (length work) ≡ true
+    right = sym is ∙ h
 
-      pub secret-singular : r ≡ Err F.Singular → Withheld AnswerSingular b secret secret₂ → Opening s key cipher (GivesSecret s key cipher (length secret)) secret work b secret₂ work₁
-      secret-singular e f = is-singular Gives secret secret refl b secret₂ e f
+  module _ (named : NamesSet key s) (out : List ℕ) where
+    pub open-wrong : t ≡ false → OpenEnds key cipher out work (Err WrongLength) out work
+    open-wrong h = open-past s key cipher out work _ out work named (rw (← is, h) (untouched WrongLength out work))
 
-      pub secret-not : r ≡ Err F.NotOpened → Withheld NotOpened b secret secret₂ → Opening s key cipher (GivesSecret s key cipher (length secret)) secret work b secret₂ work₁
-      secret-not e f = not_opened Gives secret secret refl b secret₂ (λ l g. (g.0, g.1)) e f
+    pub unwrap-wrong : t ≡ false → UnwrapEnds key cipher out work (Err WrongLength) out work
+    unwrap-wrong h = unwrap-past s key cipher out work _ out work named (rw (← is, h) (untouched WrongLength out work))
 
--- ---- the lengths of a known set
-module _ (s : Set) (key cipher work : List ℕ) where
-  pub open-given : DiscloseGiven s key cipher work → (msg : List ℕ) → length msg ≡ s.k1 → OpenGiven s key cipher msg work
-  open-given g msg long =
-      let v : Serves s = g.serves.serves in
-      record {
-        of_key = record { valid = v.valid; element = v.field; long = g.long_key };
-        cipher_long = g.long_cipher;
-        message_long = long;
-        work_long = g.long_work;
-        room = g.serves.room;
-        places_fit = v.places_fit;
-        padded_fit = v.padded_fit;
-      }
+    module _ (h : t ≡ true) where
+      pub open-other : (length out ≡ s.k1 → ⊥) → OpenEnds key cipher out work (Err WrongLength) out work
+      open-other d = open-past s key cipher out work _ out work named (rw (right h, ne_eqb (length out) s.k1 d) (untouched WrongLength out work))
 
-  module _ (t : Bool) (is : t ≡ open_lengths s (length key) (length cipher) (length work)) where
-    pub open-wrong : (out : List ℕ) → not t ≡ true → OpenOf (Some s) key cipher out work (Err WrongLength) out work
-    open-wrong out h = rw (← is, not-true t h) (record { answers = refl; same_out = refl; same_work = refl })
+      pub open-done : length out ≡ s.k1 → (b : Disclosed) (out₂ work₂ : List ℕ) → Opening s key cipher (Opens s key cipher) out work b out₂ work₂ → OpenEnds key cipher out work b out₂ work₂
+      open-done d b out₂ work₂ x = open-past s key cipher out work b out₂ work₂ named (rw (right h, eq-eqb (length out) s.k1 d) x)
 
-    pub unwrap-wrong : (out : List ℕ) → not t ≡ true → UnwrapOf (Some s) key cipher out work (Err WrongLength) out work
-    unwrap-wrong out h = rw (← is, not-true t h) (record { answers = refl; same_out = refl; same_work = refl })
+      pub unwrap-other : (u : Bool) → u ≡ leb 1 (length out) && leb (length out) s.k1 → u ≡ false → UnwrapEnds key cipher out work (Err WrongSecret) out work
+      unwrap-other u q d = unwrap-past s key cipher out work _ out work named (rw (right h, ← q, d) (untouched WrongSecret out work))
 
-    module _ (h : not t ≡ false) where
-      right : open_lengths s (length key) (length cipher) (length work) ≡ true
-      right = sym is ∙ not-false t h
-
-      pub disclose-given : OpenServes s → DiscloseGiven s key cipher work
-      disclose-given v =
-          let (a, p) = both (eqb (length key) s.private) _ right in
-          let (b, q) = both (eqb (length cipher) s.cipher) _ p in
-          record {
-            serves = v;
-            long_key = eqb-true _ _ a;
-            long_cipher = eqb-true _ _ b;
-            long_work = eqb-true _ _ q;
-          }
-
-      pub open-ready : OpenServes s → (out : List ℕ) → length out ≡ s.k1 → OpenGiven s key cipher out work
-      open-ready v out long = open-given (disclose-given v) out long
-
-      module _ (out : List ℕ) where
-        pub open-other : (length out ≡ s.k1 → ⊥) → OpenOf (Some s) key cipher out work (Err WrongLength) out work
-        open-other d = rw (right, ne_eqb (length out) s.k1 d) (record { answers = refl; same_out = refl; same_work = refl })
-
-        pub open_done : length out ≡ s.k1 → (b : Disclosed) (out₂ work₂ : List ℕ) → Opening s key cipher (Opens s key cipher) out work b out₂ work₂ → OpenOf (Some s) key cipher out work b out₂ work₂
-        open_done d b out₂ work₂ o = rw (right, eq-eqb (length out) s.k1 d) o
-
-        pub unwrap-short : length out < 1 → UnwrapOf (Some s) key cipher out work (Err WrongSecret) out work
-        unwrap-short d = rw (right, lt-leb 1 (length out) d) (record { answers = refl; same_out = refl; same_work = refl })
-
-        module _ (o : 1 ≤ length out) where
-          pub unwrap-long : s.k1 < length out → UnwrapOf (Some s) key cipher out work (Err WrongSecret) out work
-          unwrap-long d = rw (right, le-leb 1 (length out) o, lt-leb (length out) s.k1 d) (record { answers = refl; same_out = refl; same_work = refl })
-
-          pub unwrap-done : length out ≤ s.k1 → (b : Disclosed) (out₂ work₂ : List ℕ) → Opening s key cipher (GivesSecret s key cipher (length out)) out work b out₂ work₂ → UnwrapOf (Some s) key cipher out work b out₂ work₂
-          unwrap-done d b out₂ work₂ x = rw (right, le-leb 1 (length out) o, le-leb (length out) s.k1 d) x
-
--- ---- the key's first byte
-module _ (cipher out work : List ℕ) where
-  pub open-empty : (key : List ℕ) → length key ≡ 0 → OpenEnds key cipher out work (Err WrongLength) out work
-  open-empty [] h = record { answers = refl; same_out = refl; same_work = refl }
-  open-empty (b ∷ key) h = absurd (omega arith)
-
-  pub unwrap-empty : (key : List ℕ) → length key ≡ 0 → UnwrapEnds key cipher out work (Err WrongLength) out work
-  unwrap-empty [] h = record { answers = refl; same_out = refl; same_work = refl }
-  unwrap-empty (b ∷ key) h = absurd (omega arith)
-
-  pub open_unknown : (key : List ℕ) → (length key ≡ 0 → ⊥) → set_of (get_or key 0 0) ≡ None → OpenEnds key cipher out work (Err UnknownSet) out work
-  open_unknown [] h e = absurd (h refl)
-  open_unknown (b ∷ key) h e = rw e (record { answers = refl; same_out = refl; same_work = refl })
-
-  pub unwrap-unknown : (key : List ℕ) → (length key ≡ 0 → ⊥) → set_of (get_or key 0 0) ≡ None → UnwrapEnds key cipher out work (Err UnknownSet) out work
-  unwrap-unknown [] h e = absurd (h refl)
-  unwrap-unknown (b ∷ key) h e = rw e (record { answers = refl; same_out = refl; same_work = refl })
-
-  module _ (s : Set) (b : Disclosed) (out₂ work₂ : List ℕ) where
-    pub open_is : (key : List ℕ) → (length key ≡ 0 → ⊥) → set_of (get_or key 0 0) ≡ Some s → OpenOf (Some s) key cipher out work b out₂ work₂ → OpenEnds key cipher out work b out₂ work₂
-    open_is [] h e o = absurd (h refl)
-    open_is (k ∷ key) h e o = rw e o
-
-    pub unwrap-is : (key : List ℕ) → (length key ≡ 0 → ⊥) → set_of (get_or key 0 0) ≡ Some s → UnwrapOf (Some s) key cipher out work b out₂ work₂ → UnwrapEnds key cipher out work b out₂ work₂
-    unwrap-is [] h e o = absurd (h refl)
-    unwrap-is (k ∷ key) h e o = rw e o
+      pub unwrap-done : (u : Bool) → u ≡ leb 1 (length out) && leb (length out) s.k1 → u ≡ true → (b : Disclosed) (out₂ work₂ : List ℕ) → Opening s key cipher (GivesSecret s key cipher (length out)) out work b out₂ work₂ → UnwrapEnds key cipher out work b out₂ work₂
+      unwrap-done u q d b out₂ work₂ x = unwrap-past s key cipher out work b out₂ work₂ named (rw (right h, ← q, d) x)

@@ -1,6 +1,7 @@
 -- What the calls ask of a set beside `Valid`: one test, computed for each row of the table.
 use mathlib.Core.Path.{◌≡◌, refl, sym}
 use mathlib.Core.Bool.{Bool, ◌&&◌, true, false}
+use mathlib.Core.List.{List, [], ◌∷◌}
 use Prim.Native.Nat.{ℕ, ◌+◌, ◌*◌}
 use lib.Dec.{eqb, leb, ltb}
 use borrow.Author.Tests.{eqb-true, leb-true, ltb-true}
@@ -8,14 +9,15 @@ use native.Mathlib.Omega.{arith}
 use native.Mathlib.Decide.{ℕ_discrete}
 use Rattle.gf.specs.Field.{width}
 use Rattle.sets.specs.declared.Set.{Set}
-use Rattle.std.specs.Prelude.{Option, Some, None, option_map}
+use Rattle.std.specs.Prelude.{Option, Some, None, option_map, Result, Ok, Err, IfOk}
 use Rattle.sets.specs.declared.ParameterSet.{ParameterSet}
 use Rattle.sets.specs.Table.{set6, set1, set_of}
 use Rattle.sets.specs.Valid.{Valid}
 use Rattle.sets.proofs.Valid.{known, of-0x16, of-0x11, of_none}
 use Rattle.scheme.specs.Field.{field_of}
 use Rattle.opening.specs.Area.{open_room}
-use Rattle.calls.specs.Given.{Serves, OpenServes}
+use Rattle.scheme.specs.declared.Refusal.{Refusal}
+use Rattle.calls.specs.Given.{Serves, OpenServes, NamesSet}
 
 -- two tests that hold together
 pub both : (a b : Bool) → a && b ≡ true → (a ≡ true) × (b ≡ true)
@@ -70,5 +72,8 @@ module _ (byte : ℕ) (r : Option ParameterSet) (is : option_map (λ (p : Parame
     pub set_serves : Serves p.set
     set_serves = serves byte p.set the_set
 
-    pub set_open_serves : OpenServes p.set
-    set_open_serves = open-serves byte p.set the_set
+-- a set that a key names serves
+pub named_serves : (key : List ℕ) (r : Result ParameterSet Refusal) → IfOk r (λ (p : ParameterSet). NamesSet key p.set) → IfOk r (λ (p : ParameterSet). OpenServes p.set)
+named_serves [] (Ok p) h = absurd h
+named_serves (byte ∷ key) (Ok p) h = open-serves byte p.set h
+named_serves key (Err e) h = tt

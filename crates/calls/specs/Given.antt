@@ -1,8 +1,11 @@
 -- What the functions behind the first checks are given. Every set of the table serves (proofs/Rows).
-use Rattle.std.specs.Prelude.{◌≡◌, List, ℕ, ◌+◌, ◌*◌, ◌≤◌, ◌<◌, length}
+use Rattle.std.specs.Prelude.{◌≡◌, List, [], ◌∷◌, ℕ, ◌+◌, ◌*◌, ◌≤◌, ◌<◌, Some, None}
 use Rattle.gf.specs.Field.{width}
 use Rattle.sets.specs.declared.Set.{Set}
 use Rattle.sets.specs.Valid.{Valid}
+use Rattle.sets.specs.Table.{set_of}
+use Rattle.scheme.specs.declared.Refusal.{Refusal}
+use Rattle.scheme.specs.declared.Refusal.TheVariants.{UnknownSet, WrongLength}
 use Rattle.scheme.specs.Field.{field_of}
 use Rattle.opening.specs.Area.{open_room}
 
@@ -20,16 +23,12 @@ pub record OpenServes (s : Set) : Type 0 where
   pub serves : Serves s
   pub room : open_room s ≤ s.work
 
--- a public key, a ciphertext and a work area of the set's lengths
-pub record SealGiven (s : Set) (key cipher work : List ℕ) : Type 0 where
-  pub serves : Serves s
-  pub long_key : length key ≡ s.public
-  pub long_cipher : length cipher ≡ s.cipher
-  pub long_work : length work ≡ s.work
+-- the key's first byte names the set
+abbrev pub NamesSet : List ℕ → Set → Type 0
+NamesSet [] s = ⊥
+NamesSet (byte ∷ key) s = set_of byte ≡ Some s
 
--- a private key, a ciphertext and a work area of the set's lengths
-pub record DiscloseGiven (s : Set) (key cipher work : List ℕ) : Type 0 where
-  pub serves : OpenServes s
-  pub long_key : length key ≡ s.private
-  pub long_cipher : length cipher ≡ s.cipher
-  pub long_work : length work ≡ s.work
+-- the key has no first byte, or one that names none
+abbrev pub NamesNone : List ℕ → Refusal → Type 0
+NamesNone [] e = e ≡ WrongLength
+NamesNone (byte ∷ key) e = (set_of byte ≡ None) × (e ≡ UnknownSet)

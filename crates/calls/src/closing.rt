@@ -1,20 +1,26 @@
-// Sealing a message and wrapping a secret under a public key (01, Padding, sealing, opening).
-ghost use Rattle.std.specs.Prelude.{Some, ◌≡◌, ◌<◌, ◌≤◌, length};
+// Sealing a message and wrapping a secret under a public key.
+ghost use Rattle.std.specs.Prelude.{◌≡◌, ◌<◌, ◌≤◌, length};
 ghost use Rattle.scheme.specs.Sealing.{secret_message};
-ghost use Rattle.scheme.specs.Calls.{seal_lengths, after_seal, seal_of, seal_ends, wrap_of, wrap_ends};
-ghost use Rattle.calls.specs.Given.{Serves, SealGiven};
+ghost use Rattle.scheme.specs.Calls.{seal_lengths, after_seal, seal_ends, wrap_ends};
+ghost use Rattle.calls.specs.Given.{Serves};
 ghost use Rattle.calls.specs.Ends.{seal_end};
 
-use crate::space::room;
-use lists::{wipe_bytes, wipe_numbers};
+use crate::checks::{read_set, secret_fits};
+use crate::stack::cleared;
 use scheme::Refusal;
-use sets::{ParameterSet, Set};
+use sets::ParameterSet;
 
 /// Whether the lengths are those of the set, and the random bytes from 1 to 16 blocks.
-fn right_lengths(s: Set, key: usize, random: usize, cipher: usize, work: usize) -> bool
-    requires { 0 < s.block }
-    ensures { result ≡ seal_lengths s key random cipher work }
+fn right_lengths(
+    parameters: ParameterSet,
+    key: usize,
+    random: usize,
+    cipher: usize,
+    work: usize,
+) -> bool
+    ensures { result ≡ seal_lengths parameters.set key random cipher work }
 {
+    let s = parameters.set;
     let blocks = random / s.block;
     key == s.public
         && random % s.block == 0
@@ -24,55 +30,59 @@ fn right_lengths(s: Set, key: usize, random: usize, cipher: usize, work: usize) 
         && work == s.work
 }
 
-// Sealing past the first checks.
-fn seal_checked(
-    s: Set,
+/// Seals past the first checks. The work area is zero afterwards, and on a refusal the ciphertext is.
+#[inline(never)]
+fn seal_message(
+    parameters: ParameterSet,
     key: &[u8],
     random: &[u8],
     message: &[u8],
     cipher: &mut [u8],
     work: &mut [u16],
 ) -> Result<usize, Refusal>
-    requires seal_given { SealGiven s key.now cipher.old work.old }
-    requires message_length { length message.now ≡ s.k1 }
-    ensures { seal_end result cipher.new work.new ≡ after_seal s key.now random.now message.now cipher.old work.old }
+    requires serves { Serves parameters.set }
+    requires key { length key.now ≡ parameters.set.public }
+    requires message { length message.now ≡ parameters.set.k1 }
+    requires cipher { length cipher.old ≡ parameters.set.cipher }
+    requires work { length work.old ≡ parameters.set.work }
+    ensures { seal_end result cipher.new work.new ≡ after_seal parameters.set key.now random.now message.now cipher.old work.old }
 {
-    let sealed = sealing::seal(ParameterSet { set: s }, key, random, message, cipher, work);
-    wipe_numbers(work);
-    let Some(block) = sealed else {
-        wipe_bytes(cipher);
-        return Err(Refusal::ZeroValues);
-    };
-    Ok(block)
+    let block = sealing::seal(parameters, key, random, message, cipher, work);
+    work.fill(0);
+    if block.is_none() {
+        cipher.fill(0);
+    }
+    block.ok_or(Refusal::ZeroValues)
 }
 
-// Sealing for a set that is known.
-fn seal_known(
-    s: Set,
+/// Wraps past the first checks: seals the secret with zero bytes behind it.
+#[inline(never)]
+fn wrap_secret(
+    parameters: ParameterSet,
     key: &[u8],
     random: &[u8],
-    message: &[u8],
+    secret: &[u8],
     cipher: &mut [u8],
     work: &mut [u16],
 ) -> Result<usize, Refusal>
-    requires { Serves s }
-    ensures { seal_end result cipher.new work.new ≡ seal_of (Some s) key.now random.now message.now cipher.old work.old }
+    requires serves { Serves parameters.set }
+    requires key { length key.now ≡ parameters.set.public }
+    requires secret { length secret.now ≤ parameters.set.k1 }
+    requires cipher { length cipher.old ≡ parameters.set.cipher }
+    requires work { length work.old ≡ parameters.set.work }
+    ensures { seal_end result cipher.new work.new ≡ after_seal parameters.set key.now random.now (secret_message parameters.set secret.now) cipher.old work.old }
 {
-    if !right_lengths(s, key.len(), random.len(), cipher.len(), work.len()) {
-        return Err(Refusal::WrongLength);
-    }
-    let k1 = s.k1;
-    if message.len() != k1 {
-        return Err(Refusal::WrongLength);
-    }
-    seal_checked(s, key, random, message, cipher, work)
+    let mut room = [0u8; 2048];
+    let (message, _) = room.split_at_mut(parameters.set.k1);
+    message[..secret.len()].copy_from_slice(secret);
+    seal_message(parameters, key, random, message, cipher, work)
 }
 
-// The ciphertext of a message of k1 bytes under a public key, by the first random block that fits, or a refusal. The answer to a ciphertext is
-// done, with the number of the block.
-//
-// The key's first byte names the set. Key, message, ciphertext and work area have the set's lengths, and the random bytes are 1 to 16 blocks
-// of the set's, or nothing is written. Otherwise the work area is zero afterwards, and on a refusal the ciphertext is.
+/// Writes the ciphertext of a message of k1 bytes under a public key, by the first random block that fits, and answers the number of the
+/// block.
+///
+/// The key's first byte names the set. Key, message, ciphertext and work area have the set's lengths, and the random bytes are 1 to 16 blocks
+/// of the set's, or nothing is written. Otherwise the work area is zero afterwards, and on a refusal the ciphertext is.
 pub fn seal(
     key: &[u8],
     random: &[u8],
@@ -82,83 +92,27 @@ pub fn seal(
 ) -> Result<usize, Refusal>
     ensures { seal_end result cipher.new work.new ≡ seal_ends key.now random.now message.now cipher.old work.old }
 {
-    if key.len() == 0 {
+    let parameters = read_set(key)?;
+    let s = parameters.set;
+    if !right_lengths(
+        parameters,
+        key.len(),
+        random.len(),
+        cipher.len(),
+        work.len(),
+    ) {
         return Err(Refusal::WrongLength);
     }
-    let Some(parameters) = sets::find(key[0]) else {
-        return Err(Refusal::UnknownSet);
-    };
-    seal_known(parameters.set, key, random, message, cipher, work)
-}
-
-// Wrapping past the first checks, with room for the message.
-fn wrap_in(
-    s: Set,
-    key: &[u8],
-    random: &[u8],
-    secret: &[u8],
-    message: &mut [u8],
-    cipher: &mut [u8],
-    work: &mut [u16],
-) -> Result<usize, Refusal>
-    requires seal_given { SealGiven s key.now cipher.old work.old }
-    requires lengths { (length message.old ≡ s.k1) × (length secret.now ≤ s.k1) }
-    ensures { seal_end result cipher.new work.new ≡ after_seal s key.now random.now (secret_message s secret.now) cipher.old work.old }
-{
-    wipe_bytes(message);
-    message[0..secret.len()].copy_from_slice(secret);
-    seal_checked(s, key, random, message, cipher, work)
-}
-
-// Wrapping past the first checks. The message is wiped.
-fn wrap_checked(
-    s: Set,
-    key: &[u8],
-    random: &[u8],
-    secret: &[u8],
-    cipher: &mut [u8],
-    work: &mut [u16],
-) -> Result<usize, Refusal>
-    requires seal_given { SealGiven s key.now cipher.old work.old }
-    requires secret_fits { length secret.now ≤ s.k1 }
-    ensures { seal_end result cipher.new work.new ≡ after_seal s key.now random.now (secret_message s secret.now) cipher.old work.old }
-{
-    let k1 = s.k1;
-    let mut space = room();
-    let message: &mut [u8] = &mut space;
-    let answer = wrap_in(s, key, random, secret, &mut message[0..k1], cipher, work);
-    wipe_bytes(message);
-    answer
-}
-
-// Wrapping for a set that is known.
-fn wrap_known(
-    s: Set,
-    key: &[u8],
-    random: &[u8],
-    secret: &[u8],
-    cipher: &mut [u8],
-    work: &mut [u16],
-) -> Result<usize, Refusal>
-    requires { Serves s }
-    ensures { seal_end result cipher.new work.new ≡ wrap_of (Some s) key.now random.now secret.now cipher.old work.old }
-{
-    if !right_lengths(s, key.len(), random.len(), cipher.len(), work.len()) {
+    if message.len() != s.k1 {
         return Err(Refusal::WrongLength);
     }
-    let k1 = s.k1;
-    if secret.len() < 1 {
-        return Err(Refusal::WrongSecret);
-    }
-    if k1 < secret.len() {
-        return Err(Refusal::WrongSecret);
-    }
-    wrap_checked(s, key, random, secret, cipher, work)
+    cleared(seal_message(parameters, key, random, message, cipher, work))
 }
 
-// The ciphertext of a secret, which zero bytes fill up to k1 (001, 6.4), as `seal` makes it, or a refusal.
-//
-// The secret has 1 to k1 bytes, or the call is refused and nothing is written. All else is as `seal` has it.
+/// Writes the ciphertext of a secret of 1 to k1 bytes, which zero bytes fill up to k1, as `seal` makes it (RLCE-KEM specification of
+/// September 14, 2017, section 6.4).
+///
+/// A secret of another length is refused, and nothing is written. All else is as `seal` has it.
 pub fn wrap(
     key: &[u8],
     random: &[u8],
@@ -168,11 +122,19 @@ pub fn wrap(
 ) -> Result<usize, Refusal>
     ensures { seal_end result cipher.new work.new ≡ wrap_ends key.now random.now secret.now cipher.old work.old }
 {
-    if key.len() == 0 {
+    let parameters = read_set(key)?;
+    let s = parameters.set;
+    if !right_lengths(
+        parameters,
+        key.len(),
+        random.len(),
+        cipher.len(),
+        work.len(),
+    ) {
         return Err(Refusal::WrongLength);
     }
-    let Some(parameters) = sets::find(key[0]) else {
-        return Err(Refusal::UnknownSet);
-    };
-    wrap_known(parameters.set, key, random, secret, cipher, work)
+    if !secret_fits(s, secret.len()) {
+        return Err(Refusal::WrongSecret);
+    }
+    cleared(wrap_secret(parameters, key, random, secret, cipher, work))
 }

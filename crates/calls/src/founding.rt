@@ -1,4 +1,4 @@
-// Setup: a key pair from random bytes (01, Key setup).
+// Setup: a key pair from random bytes.
 ghost use Rattle.std.specs.Prelude.{◌≡◌, ◌<◌, length};
 ghost use Rattle.scheme.specs.Setup.{setup};
 ghost use Rattle.scheme.specs.Calls.{setup_lengths, after_setup, setup_ends};
@@ -6,6 +6,7 @@ ghost use Rattle.gf.specs.Field.{width};
 ghost use Rattle.scheme.specs.Field.{field_of};
 ghost use Rattle.calls.specs.Ends.{setup_end};
 
+use crate::stack::cleared;
 use scheme::Refusal;
 use sets::{ParameterSet, Set};
 
@@ -16,8 +17,9 @@ fn right_lengths(s: Set, random: usize, public: usize, private: usize, work: usi
     random == s.random && public == s.public && private == s.private && work == s.work
 }
 
-// Setup past the first checks. Nothing is left in the work area, and on a refusal nothing in the keys.
-fn setup_checked(
+/// Makes a key pair past the first checks. The work area is zero afterwards, and on a refusal both keys are.
+#[inline(never)]
+fn make_pair(
     parameters: ParameterSet,
     random: &[u8],
     public: &mut [u8],
@@ -41,10 +43,10 @@ fn setup_checked(
     made
 }
 
-// A key pair of the set that the byte names, from random bytes, or a refusal. The answer to a pair is done, with the number of windows tried.
-//
-// The random bytes, both keys and the work area have the set's lengths, or nothing is written. Otherwise the work area is zero afterwards,
-// and on a refusal both keys are.
+/// Writes a key pair of the set that the byte names, from random bytes, and answers the number of windows tried.
+///
+/// The random bytes, both keys and the work area have the set's lengths, or nothing is written. Otherwise the work area is zero afterwards,
+/// and on a refusal both keys are.
 pub fn setup(
     byte: u8,
     random: &[u8],
@@ -61,5 +63,5 @@ pub fn setup(
     if !right_lengths(s, random.len(), public.len(), private.len(), work.len()) {
         return Err(Refusal::WrongLength);
     }
-    setup_checked(parameters, random, public, private, work)
+    cleared(make_pair(parameters, random, public, private, work))
 }

@@ -1,16 +1,18 @@
--- The key's first byte names the set.
-use Rattle.calls.proofs.Rows.{no_set, the_set, set_serves}
-use Rattle.calls.proofs.SealLaws.{seal-empty, seal-unknown, seal-is}
+-- Each first check is a case of the definition.
+use Rattle.std.proofs.lemmas.Result.{err_from_is_err_and}
+use Rattle.calls.proofs.SealLaws.{seal-refused, seal-wrong, seal-other, seal-done}
 use Rattle.calls.proofs.closing.seal.Goals as goal
 
-pub returns-then-key-eq0 : goal.returns-then-key-eq0
-returns-then-key-eq0 c = search seal-empty
+pub returns-in_err-parameters : goal.returns-in_err-parameters
+returns-in_err-parameters c =
+    let p = err_from_is_err_and c.from_residual.result c.from_residual.ensures.1 in
+    rw (p.1, p.2) (seal-refused _ _ _ _ _ c.in_err-parameters.field-0.0 c.in_err-parameters.ensures.none)
 
-pub returns-in_default : goal.returns-in_default
-returns-in_default c = search (seal-unknown, no_set)
+pub returns-then-not-right_lengths : goal.returns-then-not-right_lengths
+returns-then-not-right_lengths c = search (seal-wrong, c.in_ok-parameters.ensures.named)
 
-pub seal_known-requires : goal.seal_known-requires
-seal_known-requires c = search set_serves
+pub returns-then-message-s : goal.returns-then-message-s
+returns-then-message-s c = search (seal-other, c.in_ok-parameters.ensures.named)
 
 pub returns : goal.returns
-returns c = search (seal-is, the_set)
+returns c = search (seal-done, c.in_ok-parameters.ensures.named)

@@ -9,11 +9,11 @@ returns-in_default c = search (unknown-set, no_set)
 pub returns-then-not-right_lengths : goal.returns-then-not-right_lengths
 returns-then-not-right_lengths c = search (wrong-length, the_set)
 
-pub setup_checked-requires-clause-field : goal.setup_checked-requires-clause-field
-setup_checked-requires-clause-field c = (set_serves c.args.byte c.find.result c.find.ensures.named c.in-Some.parameters c.in-Some.is).field
+pub make_pair-requires-clause-field : goal.make_pair-requires-clause-field
+make_pair-requires-clause-field c = (set_serves c.args.byte c.find.result c.find.ensures.named c.in-Some.parameters c.in-Some.is).field
 
-pub setup_checked-requires-clause-byte : goal.setup_checked-requires-clause-byte
-setup_checked-requires-clause-byte c = (set_serves c.args.byte c.find.result c.find.ensures.named c.in-Some.parameters c.in-Some.is).byte
+pub make_pair-requires-clause-byte : goal.make_pair-requires-clause-byte
+make_pair-requires-clause-byte c = (set_serves c.args.byte c.find.result c.find.ensures.named c.in-Some.parameters c.in-Some.is).byte
 
 pub returns : goal.returns
 returns c = search (checked, the_set)

@@ -1,0 +1,41 @@
+// What a call leaves on the stack: nothing that depends on a secret.
+//
+// The functions that handle secrets keep copies of them in their frames: rooms, schedules, saved registers. The compiler drops a wipe of a
+// room that is not read again, so the frames themselves are overwritten once a call, and what was written is read back into the answer.
+ghost use Rattle.std.specs.Prelude.{◌≡◌, Result, length, replicate};
+
+use scheme::Refusal;
+
+/// Sets all to zero, and gives the bits that are left.
+#[inline(never)]
+#[tactic(auto, using(crate::proofs::Zero::or_zero))]
+fn wipe(bytes: &mut [u8]) -> u8
+    ensures clean { result ≡ 0 }
+{
+    bytes.fill(0);
+    let mut left = 0;
+    for byte in bytes.iter() {
+        left |= *byte;
+    }
+    left
+}
+
+/// Overwrites what calls that have returned left on the stack, 16 KiB deep. None uses half as much.
+#[inline(never)]
+fn burn() -> u8
+    ensures clean { result ≡ 0 }
+{
+    let mut room = [0u8; 16384];
+    wipe(&mut room)
+}
+
+/// The answer of a call that has returned, once the frames that it used are overwritten. That call must be `#[inline(never)]`.
+pub fn cleared<T: Copy>(answer: Result<T, Refusal>) -> Result<T, Refusal>
+    ensures same { result ≡ answer }
+{
+    if burn() == 0 {
+        answer
+    } else {
+        Err(Refusal::NotOpened)
+    }
+}
