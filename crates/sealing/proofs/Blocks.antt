@@ -1,13 +1,11 @@
 -- What a random block gives: its places rise, lie below n + w and are t; the word that is sent with them is the ciphertext of the triple.
 use mathlib.Core.Path.{◌≡◌, sym, ap, ◌∙◌}
 use mathlib.Core.List.{List}
-use Prim.Native.Nat.{ℕ, ◌+◌, ◌*◌, ◌≤◌, ◌<◌}
+use Prim.Native.Nat.{ℕ, ◌+◌, ◌<◌}
 use native.Mathlib.Nat.{zero-add}
 use native.Mathlib.Omega.{arith}
 use lib.ListN.{length, get_or, take, drop}
-use lib.Seq.{get_or-take, get_or-drop}
-use Rattle.lists.specs.Parts.{part}
-use Rattle.bits.specs.Bits.{packed, bytes_for}
+use Rattle.bits.specs.Bits.{bytes_for}
 use Rattle.bits.proofs.Packing.{elements-small, length-packed}
 use Rattle.sets.specs.declared.Set.{Set}
 use Rattle.sets.specs.Valid.{Valid}
@@ -15,10 +13,10 @@ use Rattle.perm.specs.Shuffle.{shuffled}
 use Rattle.scheme.specs.Lists.{has}
 use Rattle.scheme.specs.Keys.{public_ge}
 use Rattle.scheme.specs.Sealing.{sent, triple_elements, error_values, ciphertext, block_seed, block_places}
-use Rattle.sealing.specs.Steps.{Room, Rising, Drawn, Ready}
+use Rattle.sealing.specs.Steps.{Rising, Drawn}
+use Rattle.sealing.specs.Seals.{Ready, sent_by}
 use Rattle.sealing.proofs.Selections.{chosen}
 use Rattle.sealing.proofs.Choosing.{count-places}
-use Rattle.sealing.proofs.Elements.{part-head, part-tail}
 use Rattle.sealing.proofs.Sent.{length-sent}
 
 module _ (s : Set) (block : List ℕ) where
@@ -41,27 +39,16 @@ length-ciphertext s v ge msg seed places =
     length-packed s.m (sent s ge x places (error_values s msg seed places)) ∙ ap (bytes_for s.m) (length-sent s ge x places (error_values s msg seed places)) ∙ sym v.cipher_is
 
 -- ---- a drawn block
-module _ (s : Set) (v : Valid s) (room : Room s) (msg block w : List ℕ) (work : length w ≡ s.work) (d : Drawn s msg block w) where
-  pub drawn-ready : Ready s w
+module _ (s : Set) (v : Valid s) (msg block places els : List ℕ) (d : Drawn s msg block places els) where
+  pub drawn-ready : Ready s places els
   unfolding triple_elements
   drawn-ready =
       record {
-        rising = rw d.places (places-rising s block);
-        placed = λ i h.
-            let q : get_or (block_places s block) i 0 ≡ get_or w (2 * (s.n + s.w) + i) 0 = ap (λ (l : List ℕ). get_or l i 0) (sym d.places) ∙ get_or-take s.t (drop (2 * (s.n + s.w)) w) i 0 h ∙ get_or-drop (2 * (s.n + s.w)) w i 0 in
-            rw (sym q) (places-below s block i (rw (length-block_places s block v) h));
-        small = rw d.elements (elements-small s.m _);
+        rising = rw d.places_are (places-rising s block);
+        placed = λ i h. rw d.places_are (places-below s block i (rw (length-block_places s block v) h));
+        small = rw d.elements_are (elements-small s.m _);
       }
 
-  pub drawn-sent : (key : List ℕ)
-      → packed s.m (sent s (public_ge s key) (part (3 * (s.n + s.w)) s.k w) (part (2 * (s.n + s.w)) s.t w) (part (3 * (s.n + s.w) + s.k) s.t w))
-      ≡ ciphertext s (public_ge s key) msg (block_seed s block) (block_places s block)
+  pub drawn-sent : (key : List ℕ) → sent_by s key places els ≡ ciphertext s (public_ge s key) msg (block_seed s block) (block_places s block)
   unfolding ciphertext error_values
-  drawn-sent key =
-      let r = room.runs in
-      let g : s.k + s.t ≤ s.n + s.w = omega (arith, v.code) in
-      let x : part (3 * (s.n + s.w)) s.k w ≡ take s.k (triple_elements s msg (block_seed s block) (block_places s block)) =
-      part-head (3 * (s.n + s.w)) s.k s.t w ∙ ap (take s.k) d.elements in
-      let y : part (3 * (s.n + s.w) + s.k) s.t w ≡ drop s.k (triple_elements s msg (block_seed s block) (block_places s block)) =
-      part-tail (3 * (s.n + s.w)) s.k s.t w (omega arith) ∙ ap (drop s.k) d.elements in
-      rw (x, y, d.places)
+  drawn-sent key = rw (d.elements_are, d.places_are)

@@ -1,9 +1,9 @@
 -- The search for the first block that fits: what is left to search answers what the whole does.
-use mathlib.Core.Path.{◌≡◌, refl, sym, ◌∙◌}
+use mathlib.Core.Path.{◌≡◌, refl, sym, ap, ◌∙◌}
 use mathlib.Core.Bool.{Bool, true, false}
 use mathlib.Core.List.{List}
 use Prim.Native.Nat.{ℕ, zero, suc, ◌+◌, ◌-◌, ◌*◌, ◌/◌, ◌≤◌, ◌<◌}
-use native.Mathlib.Nat.{sub-zero, mul-div-le, mul-le-mul_left, mul-add, mul-one}
+use native.Mathlib.Nat.{add-sub_cancel_left, sub-zero, mul-div-le, mul-le-mul_left, mul-add, mul-one}
 use native.Mathlib.Omega.{arith}
 use lib.ListN.{length}
 use Rattle.lists.specs.Loops.{first}
@@ -12,10 +12,13 @@ use Rattle.lists.proofs.Loops.{first-again, first_found, first-nowhere}
 use Rattle.sets.specs.declared.Set.{Set}
 use Rattle.scheme.specs.Sealing.{block_at, fits, first_fitting}
 use Rattle.std.specs.Prelude.{Some}
-use Rattle.sealing.specs.Steps.{Tried}
+use Rattle.sealing.specs.Steps.{Drawn}
 use Rattle.sealing.specs.Seals.{Finds}
-use Rattle.sealing.proofs.Elements.{lent}
 use Rattle.sealing.proofs.Selections.{at-or}
+
+-- what is lent from a start to an end
+lent : (a n : ℕ) (l : List ℕ) → part a (a + n - a) l ≡ part a n l
+lent a n l = ap (λ (i : ℕ). part a i l) (add-sub_cancel_left a n)
 
 -- block b lies within the random bytes
 pub block_within : (block b n : ℕ) → b < n / block → block * b + block ≤ n
@@ -29,16 +32,18 @@ unfolding first_fitting
 first-from s msg random = rw sub-zero
 
 module _ (s : Set) (msg random : List ℕ) (b : ℕ) (left : first_fitting s msg random ≡ first (λ i. fits s msg (block_at s random i)) (length random / s.block - b) b) where
-  module _ (h : b < length random / s.block) (r : Bool) (w : List ℕ) (t : Tried s msg (part (s.block * b) (s.block * b + s.block - s.block * b) random) r w) where
-    pub found_here : r ≡ true → Finds s random msg (Some b) w
-    found_here e =
-        let u : Tried s msg (block_at s random b) r w = rw (lent (s.block * b) s.block random) at t in
-        (first_found (λ i. fits s msg (block_at s random i)) (length random / s.block) b (first_fitting s msg random) left h (sym u.answer ∙ e), h, u.drawn)
+  module _ (h : b < length random / s.block) (r : Bool) (q : r ≡ fits s msg (part (s.block * b) (s.block * b + s.block - s.block * b) random)) where
+    answer : r ≡ fits s msg (block_at s random b)
+    answer = rw (lent (s.block * b) s.block random) at q
+
+    pub found_here : r ≡ true → (places els : List ℕ) → Drawn s msg (part (s.block * b) (s.block * b + s.block - s.block * b) random) places els
+        → Finds s random msg (Some b) places els
+    found_here e places els d =
+        (first_found (λ i. fits s msg (block_at s random i)) (length random / s.block) b (first_fitting s msg random) left h (sym answer ∙ e), h, rw (lent (s.block * b) s.block random) at d)
 
     pub found-later : r ≡ false → first_fitting s msg random ≡ first (λ i. fits s msg (block_at s random i)) (length random / s.block - (b + 1)) (b + 1)
     found-later e =
-        let u : Tried s msg (block_at s random b) r w = rw (lent (s.block * b) s.block random) at t in
-        first-again (λ i. fits s msg (block_at s random i)) (length random / s.block) b (first_fitting s msg random) left h (sym u.answer ∙ e)
+        first-again (λ i. fits s msg (block_at s random i)) (length random / s.block) b (first_fitting s msg random) left h (sym answer ∙ e)
 
   pub found_nowhere : b ≤ length random / s.block → length random / s.block ≤ b → first_fitting s msg random ≡ length random / s.block
   found_nowhere h g = sym (first-nowhere (λ i. fits s msg (block_at s random i)) (length random / s.block) b (first_fitting s msg random) left h g)

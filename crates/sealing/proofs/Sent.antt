@@ -1,5 +1,5 @@
 -- What is sent is the word that the work area holds after the rows and the values were added; its entries are elements.
-use mathlib.Core.Path.{◌≡◌, sym, ap, ap₂, ◌∙◌}
+use mathlib.Core.Path.{◌≡◌, sym, ap, ◌∙◌}
 use mathlib.Core.Bool.{Bool, true, false}
 use mathlib.Core.List.{List, [], ◌∷◌}
 use Prim.Native.Nat.{ℕ, zero, suc, ◌+◌, ◌-◌, ◌*◌, ◌^◌, ◌≤◌, ◌<◌}
@@ -11,22 +11,17 @@ use lib.Pow.{pow_pos}
 use lib.ListN.{length, get_or, take, length-take, get_or-eq_default}
 use lib.Seq.{get_or-take, ext_get_or}
 use Rattle.lists.specs.Loops.{pick, tab}
-use Rattle.lists.specs.Parts.{part}
 use Rattle.lists.proofs.Tables.{length-tab, get_or-tab, all-tab}
-use Rattle.lists.proofs.Parts.{part_length}
-use Rattle.lists.proofs.Writing.{part_same}
 use Rattle.gf.specs.Field.{Modulus, ◌⊕◌, mul, size, width}
 use Rattle.gf.proofs.Xor.{add-lt}
 use Rattle.gf.proofs.Ring.{mul-lt}
 use Rattle.bits.specs.Bits.{elements_at, bytes_for, Small}
-use Rattle.bits.proofs.Strings.{drop-small}
 use Rattle.sets.specs.declared.Set.{Set}
 use Rattle.sets.specs.Valid.{Valid}
 use Rattle.scheme.specs.Field.{field_of}
 use Rattle.scheme.specs.Keys.{public_ge}
 use Rattle.scheme.specs.Sealing.{combined, encoded, error_at, sent}
-use Rattle.sealing.specs.Steps.{Room, Rising, Summed, Added, Ready}
-use Rattle.sealing.proofs.Elements.{part-head, part-tail}
+use Rattle.sealing.specs.Steps.{Encoded, Added}
 
 -- ---- the entries of a word are elements
 pub combined-lt : (F : Modulus) (x : List ℕ) (k : ℕ) (M : ℕ → ℕ) → combined F x k M < size F
@@ -62,7 +57,7 @@ pub length-sent : (s : Set) (ge x places values : List ℕ) → length (sent s g
 unfolding sent
 length-sent s ge x places values = length-tab (s.n + s.w) (λ j. encoded s ge x j ⊕ error_at places values j)
 
-take-small : (m n : ℕ) (l : List ℕ) → Small m l → Small m (take n l)
+pub take-small : (m n : ℕ) (l : List ℕ) → Small m l → Small m (take n l)
 take-small m n l h i = at (dec_lt i n)
   where
     at : Dec (i < n) → get_or (take n l) i 0 < 2 ^ m
@@ -80,65 +75,38 @@ encoded-back s ge x c =
     let e : s.k + c - s.k ≡ c = omega arith in
     rw (le-ltb (s.k + c) s.k (omega arith), e)
 
-module _ (s : Set) (v : Valid s) (room : Room s) (key w₀ w₁ : List ℕ) (work : length w₀ ≡ s.work) (ready : Ready s w₀)
-    (S : Summed (s.n + s.w) s.k (elements_at (s.k * (s.n + s.w - s.k)) s.m key 8) (part (3 * (s.n + s.w)) s.k w₀) s.k w₀ w₁) where
-  kept : (a n : ℕ) → 2 * (s.n + s.w) ≤ a → part a n w₁ ≡ part a n w₀
-  kept a n h = part_same a n w₀ w₁ S.long (λ i q. S.rest (a + i) (omega arith))
+module _ (s : Set) (v : Valid s) (key x w₁ : List ℕ) {k cols : ℕ} (k-is : k ≡ s.k) (cols-is : cols ≡ s.n + s.w - s.k) (x-long : length x ≡ s.k)
+    (long : length w₁ ≡ s.n + s.w) (E' : Encoded (elements_at (k * cols) s.m key 8) x cols w₁) where
+  E : Encoded (elements_at (s.k * (s.n + s.w - s.k)) s.m key 8) x (s.n + s.w - s.k) w₁
+  E = rw (k-is, cols-is) at E'
 
-  pub values-ready : (s.n + s.w ≤ 2 * (s.n + s.w)) × (s.n + s.w ≤ 3 * (s.n + s.w) + s.k) × (2 * (s.n + s.w) + s.t ≤ length w₁) × (3 * (s.n + s.w) + s.k + s.t ≤ length w₁)
-      × Rising (part (2 * (s.n + s.w)) s.t w₁) × ((i : ℕ) → i < s.t → get_or w₁ (2 * (s.n + s.w) + i) 0 < s.n + s.w)
-  values-ready =
-      let r = room.runs in
-      let g : s.k + s.t ≤ s.n + s.w = omega (arith, v.code) in
-      let l = S.long in (
-        omega arith,
-        omega arith,
-        omega arith,
-        omega arith,
-        rw (kept (2 * (s.n + s.w)) s.t (omega arith)) ready.rising,
-        λ i h. rw (S.rest (2 * (s.n + s.w) + i) (omega arith)) (ready.placed i h),
-      )
-
-  word_at : (j : ℕ) → j < s.n + s.w → get_or w₁ j 0 ≡ encoded s (public_ge s key) (part (3 * (s.n + s.w)) s.k w₀) j
+  word_at : (j : ℕ) → j < s.n + s.w → get_or w₁ j 0 ≡ encoded s (public_ge s key) x j
   unfolding public_ge
   word_at j h = go (dec_lt j s.k)
     where
-      go : Dec (j < s.k) → get_or w₁ j 0 ≡ encoded s (elements_at (s.k * (s.n + s.w - s.k)) s.m key 8) (part (3 * (s.n + s.w)) s.k w₀) j
-      go (yes l) = S.vector j l ∙ sym (encoded-front s (elements_at (s.k * (s.n + s.w - s.k)) s.m key 8) (part (3 * (s.n + s.w)) s.k w₀) j l)
+      go : Dec (j < s.k) → get_or w₁ j 0 ≡ encoded s (elements_at (s.k * (s.n + s.w - s.k)) s.m key 8) x j
+      go (yes l) = E.vector j (omega (arith, x-long)) ∙ sym (encoded-front s (elements_at (s.k * (s.n + s.w - s.k)) s.m key 8) x j l)
       go (no l) =
-          let c : ℕ = j - s.k in
           let q : s.k + (j - s.k) ≡ j = omega arith in
           let lt : j - s.k < s.n + s.w - s.k = omega arith in
-          let r = S.sums (j - s.k) lt ∙ sym (encoded-back s (elements_at (s.k * (s.n + s.w - s.k)) s.m key 8) (part (3 * (s.n + s.w)) s.k w₀) (j - s.k)) in
+          let r = (rw x-long at (E.sums (j - s.k) lt)) ∙ sym (encoded-back s (elements_at (s.k * (s.n + s.w - s.k)) s.m key 8) x (j - s.k)) in
           rw q at r
 
-  module _ (w₂ : List ℕ) (A : Added (s.n + s.w) (part (2 * (s.n + s.w)) s.t w₁) (part (3 * (s.n + s.w) + s.k) s.t w₁) 0 w₁ w₂) where
-    abbrev word : List ℕ
-    word = sent s (public_ge s key) (part (3 * (s.n + s.w)) s.k w₀) (part (2 * (s.n + s.w)) s.t w₀) (part (3 * (s.n + s.w) + s.k) s.t w₀)
-
-    long-word : length (part 0 (s.n + s.w - 0) w₂) ≡ s.n + s.w
-    long-word = let r = room.runs in let l = S.long in let m = A.long in part_length 0 (s.n + s.w - 0) w₂ (omega arith) ∙ omega arith
-
-    pub word-is : part 0 (s.n + s.w - 0) w₂ ≡ word
+  module _ (places values w₂ : List ℕ) (A : Added places values 0 w₁ w₂) where
+    pub word-is : w₂ ≡ sent s (public_ge s key) x places values
     unfolding sent
     word-is =
-        let f : ℕ → ℕ = λ j. encoded s (public_ge s key) (part (3 * (s.n + s.w)) s.k w₀) j ⊕ error_at (part (2 * (s.n + s.w)) s.t w₀) (part (3 * (s.n + s.w) + s.k) s.t w₀) j in
-        ext_get_or 0 (part 0 (s.n + s.w - 0) w₂) (tab (s.n + s.w) f) (long-word ∙ sym (length-tab (s.n + s.w) f))
-        (λ j g. let h : j < s.n + s.w = omega (arith, long-word) in
-        get_or-take (s.n + s.w - 0) w₂ j 0 (omega arith) ∙ A.word j h
-        ∙ ap₂ ◌⊕◌ (word_at j h) (ap₂ (λ (p q : List ℕ). error_at p q j) (kept (2 * (s.n + s.w)) s.t (omega arith)) (kept (3 * (s.n + s.w) + s.k) s.t (omega arith)))
-        ∙ sym (get_or-tab (s.n + s.w) f j h))
+        let f : ℕ → ℕ = λ j. encoded s (public_ge s key) x j ⊕ error_at places values j in
+        let n : length w₂ ≡ s.n + s.w = A.long ∙ long in
+        ext_get_or 0 w₂ (tab (s.n + s.w) f) (n ∙ sym (length-tab (s.n + s.w) f))
+        (λ j g. let h : j < s.n + s.w = omega (arith, n) in
+        A.word j (omega (arith, long)) ∙ ap (λ (y : ℕ). y ⊕ error_at places values j) (word_at j h) ∙ sym (get_or-tab (s.n + s.w) f j h))
 
-    pub pack-ready : (cipher : List ℕ) → s.m ≡ width (field_of s) → length cipher ≡ s.cipher
-        → (8 ≤ s.m) × (s.m ≤ 16) × Small s.m (part 0 (s.n + s.w - 0) w₂) × (length cipher ≡ bytes_for s.m (length (part 0 (s.n + s.w - 0) w₂)))
-    pack-ready cipher e n =
-        let r = room.runs in
-        let g : s.k + s.t ≤ s.n + s.w = omega (arith, v.code) in
-        let x : Small s.m (part (3 * (s.n + s.w)) s.k w₀) = rw (part-head (3 * (s.n + s.w)) s.k s.t w₀) (take-small s.m s.k (part (3 * (s.n + s.w)) (s.k + s.t) w₀) ready.small) in
-        let y : Small s.m (part (3 * (s.n + s.w) + s.k) s.t w₀) =
-        rw (part-tail (3 * (s.n + s.w)) s.k s.t w₀ (omega arith)) (drop-small s.m s.k (part (3 * (s.n + s.w)) (s.k + s.t) w₀) ready.small) in (
-          v.narrow,
-          v.wide,
-          rw word-is (sent-small s (public_ge s key) (part (3 * (s.n + s.w)) s.k w₀) (part (2 * (s.n + s.w)) s.t w₀) (part (3 * (s.n + s.w) + s.k) s.t w₀) e x y),
-          n ∙ v.cipher_is ∙ ap (bytes_for s.m) (sym long-word),
-        )
+    pub pack_ready : (cipher : List ℕ) → s.m ≡ width (field_of s) → length cipher ≡ s.cipher → Small s.m x → Small s.m values
+        → (8 ≤ s.m) × (s.m ≤ 16) × Small s.m w₂ × (length cipher ≡ bytes_for s.m (length w₂))
+    pack_ready cipher e n sx sv = (
+      v.narrow,
+      v.wide,
+      rw word-is (sent-small s (public_ge s key) x places values e sx sv),
+      n ∙ v.cipher_is ∙ ap (bytes_for s.m) (sym (A.long ∙ long)),
+    )

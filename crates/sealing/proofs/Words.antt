@@ -1,65 +1,25 @@
 -- The word that is sent: row after row of GE times its element of the vector, and then the error values, each at its place.
 use mathlib.Core.Path.{◌≡◌, refl, sym, ap, ap₂, ◌∙◌}
-use mathlib.Core.Logic.{◌≢◌, inl, inr}
-use mathlib.Core.List.{List, [], ◌∷◌}
+use mathlib.Core.Logic.{◌≢◌}
+use mathlib.Core.List.{List, [], ◌∷◌, ◌++◌}
 use Prim.Native.Nat.{ℕ, suc, ◌+◌, ◌-◌, ◌*◌, ◌^◌, ◌≤◌, ◌<◌}
-use native.Mathlib.Nat.{zero-add, add-sub_cancel_left, mul-add, add-mul, zero-mul, mul-zero, mul-le-mul, mul-le-mul_left, mul-le-mul_right}
+use native.Mathlib.Nat.{mul-add, add-mul, zero-mul, mul-zero, mul-le-mul, mul-le-mul_left, mul-le-mul_right}
 use native.Mathlib.Numerals.{add-one}
 use native.Mathlib.Omega.{arith}
 use borrow.Author.Tests.{eq-eqb, ne_eqb}
-use lib.ListN.{length, get_or, set, drop, replicate, length-set, length-take, length-drop, length-replicate, get_or-replicate, drop_of_length-le}
-use lib.Seq.{get_or-set_same, get_or-set_other, get_or-take, get_or-drop, drop-cons}
-use Rattle.lists.specs.Parts.{part, put, Wrote}
-use Rattle.lists.proofs.Parts.{part_length}
-use Rattle.lists.proofs.Writing.{wrote-more, wrote-lent, part_same}
+use lib.ListN.{length, get_or, set, drop, replicate, length-set, length-drop, get_or-replicate, get_or-append, drop_of_length-le}
+use lib.Seq.{get_or-set_same, get_or-set_other, get_or-drop, drop-cons}
 use Rattle.gf.specs.Field.{Modulus, ◌⊕◌, mul, size}
 use Rattle.gf.specs.Ten.{ten}
-use Rattle.gf.specs.Runs.{add_run}
 use Rattle.gf.proofs.Xor.{zero_right}
-use Rattle.gf.proofs.Runs.{add-length, add-off, add_at}
 use Rattle.bits.specs.Bits.{elements_at, bits_at}
-use Rattle.bits.proofs.Packing.{length-elements_at, elements_at-at}
+use Rattle.bits.proofs.Packing.{elements_at-at}
 use Rattle.scheme.specs.Sealing.{combined, error_at}
 use Rattle.sealing.proofs.Selections.{at-or}
-use Rattle.sealing.specs.Steps.{Rising, Laid, Summed, Added, row_added}
-
--- ---- the vector at the front, then zeros
-pub copied_more : (from n i : ℕ) (w₀ w : List ℕ) → Wrote 0 i (λ j. get_or w₀ (from + j) 0) w₀ w → i < n → n ≤ from → from + n ≤ length w₀
-    → Wrote 0 (i + 1) (λ j. get_or w₀ (from + j) 0) w₀ (set w i (get_or w (from + i) 0))
-copied_more from n i w₀ w c lt apart fits =
-    rw (ap (λ (x : ℕ). set w x (get_or w (from + i) 0)) (zero-add i))
-    at (wrote-more 0 i n (λ j. get_or w₀ (from + j) 0) w₀ w (get_or w (from + i) 0) c lt (omega arith) (c.elsewhere (from + i) (λ p q. omega arith)))
-
-pub laid : (size k : ℕ) (p w₀ w : List ℕ) → k ≤ size → 4 * size ≤ length w₀ → Wrote 0 k (λ j. get_or w₀ (3 * size + j) 0) w₀ w → p ≡ replicate (length (part k (size - k) w)) 0
-    → Laid size k w₀ (put k (size - k) p w)
-laid size k p w₀ w few room c z =
-    let fits : k + (size - k) ≤ length w = omega (arith, c.long) in
-    let n : length (part k (size - k) w) ≡ size - k = part_length k (size - k) w fits in
-    let d = wrote-lent k (size - k) p w (put k (size - k) p w) refl (ap length z ∙ length-replicate (length (part k (size - k) w)) 0 ∙ n) fits in
-    record {
-      long = d.long ∙ c.long;
-      vector = λ j h. d.elsewhere j (λ p q. omega arith) ∙ (rw (zero-add j) at (c.there j h));
-      zeros = λ j h. d.there j h ∙ ap (λ (x : List ℕ). get_or x j 0) z ∙ get_or-replicate (length (part k (size - k) w)) j 0 0 (rw n h);
-      rest = λ j h. d.elsewhere j (λ p q. omega arith) ∙ c.elsewhere j (λ p q. omega arith);
-    }
-
--- ---- a row
-pub row-ready : (m place k size : ℕ) (key w : List ℕ) → m ≤ 16 → k ≤ size → 4 * size ≤ length w → place + m * (size - k) ≤ 8 * length key → place + m * (size - k) < 2 ^ 64
-    → (m ≤ 16) × (place + m * length (part size (size + (size - k) - size) w) ≤ 8 * length key) × (place + m * length (part size (size + (size - k) - size) w) < 2 ^ 64)
-row-ready m place k size key w wide few room h fits =
-    let c : size + (size - k) - size ≡ size - k = add-sub_cancel_left size (size - k) in
-    let n : length (part size (size + (size - k) - size) w) ≡ size - k = ap (λ (i : ℕ). length (part size i w)) c ∙ part_length size (size - k) w (omega arith) in
-    (wide, rw n h, rw n fits)
-
-pub row_is : (m place k size i : ℕ) (key p w w' : List ℕ) → k ≤ size → 4 * size ≤ length w
-    → p ≡ elements_at (length (part size (size + (size - k) - size) w)) m key place
-    → w' ≡ add_run ten k size (size - k) (get_or (put size (size + (size - k) - size) p w) (3 * size + i) 0) (put size (size + (size - k) - size) p w)
-    → w' ≡ row_added m key place k size i w
-row_is m place k size i key p w w' few room e q =
-    let c : size + (size - k) - size ≡ size - k = add-sub_cancel_left size (size - k) in
-    let n : length (part size (size + (size - k) - size) w) ≡ size - k = ap (λ (j : ℕ). length (part size j w)) c ∙ part_length size (size - k) w (omega arith) in
-    let e₂ : p ≡ elements_at (size - k) m key place = e ∙ ap (λ (j : ℕ). elements_at j m key place) n in
-    q ∙ ap₂ (λ (j : ℕ) (x : List ℕ). add_run ten k size (size - k) (get_or (put size j x w) (3 * size + i) 0) (put size j x w)) c e₂
+use Rattle.gf.specs.Runs.{row_plus}
+use Rattle.gf.proofs.Rows.{row_plus-at}
+use Rattle.std.proofs.lemmas.List.{get_or-append-add}
+use Rattle.sealing.specs.Steps.{Rising, Summed, Encoded, Added}
 
 pub combined-nil : (F : Modulus) (x : List ℕ) (M : ℕ → ℕ) → combined F x 0 M ≡ 0
 unfolding combined
@@ -68,18 +28,6 @@ combined-nil F x M = refl
 pub combined-suc : (F : Modulus) (x : List ℕ) (k : ℕ) (M : ℕ → ℕ) → combined F x (suc k) M ≡ combined F x k M ⊕ mul F (get_or x k 0) (M k)
 unfolding combined
 combined-suc F x k M = refl
-
-part_at : (a k : ℕ) (l : List ℕ) (i : ℕ) → i < k → get_or (part a k l) i 0 ≡ get_or l (a + i) 0
-part_at a k l i h = rw (get_or-take, get_or-drop)
-
-pub summed-none : (size k : ℕ) (ge w : List ℕ) → Laid size k w w → Summed size k ge (part (3 * size) k w) 0 w w
-summed-none size k ge w l =
-    record {
-      long = refl;
-      vector = λ j h. l.vector j h ∙ sym (part_at (3 * size) k w j h);
-      sums = λ c h. l.zeros c h ∙ sym (combined-nil ten (part (3 * size) k w) (λ r. get_or ge (r * (size - k) + c) 0));
-      rest = λ j h. refl;
-    }
 
 -- ---- where row i stands: it is within the elements of GE, and its bits are within the key
 row_ends : (i k cols : ℕ) → i < k → i * cols + cols ≤ k * cols
@@ -118,63 +66,6 @@ ge-at m i k cols c key h g =
     elements_at-at (k * cols) m key 8 (i * cols + c) (omega (arith, row_ends i k cols h))
     ∙ ap (bits_at m key) (ap (λ (x : ℕ). 8 + x) (mul-add m (i * cols) c) ∙ omega arith)
 
-module _ (m size k place i : ℕ) (key w₀ w w' : List ℕ) (low : k ≤ size) (room : 4 * size ≤ length w₀) (h : i < k)
-    (at : place ≡ 8 + m * (i * (size - k)))
-    (S : Summed size k (elements_at (k * (size - k)) m key 8) (part (3 * size) k w₀) i w₀ w)
-    (e : w' ≡ row_added m key place k size i w) where
-  abbrev x : List ℕ
-  x = part (3 * size) k w₀
-
-  abbrev row : List ℕ
-  row = elements_at (size - k) m key place
-
-  abbrev w₁ : List ℕ
-  w₁ = put size (size - k) row w
-
-  wrote : Wrote size (size - k) (λ c. get_or row c 0) w w₁
-  wrote = wrote-lent size (size - k) row w w₁ refl (length-elements_at (size - k) m key place) (omega (arith, S.long))
-
-  factor : get_or w₁ (3 * size + i) 0 ≡ get_or x i 0
-  factor =
-      wrote.elsewhere (3 * size + i) (λ p q. omega arith) ∙ S.rest (3 * size + i) (omega arith) ∙ sym (part_at (3 * size) k w₀ i h)
-
-  sums : (c : ℕ) → c < size - k
-      → get_or (add_run ten k size (size - k) (get_or w₁ (3 * size + i) 0) w₁) (k + c) 0
-      ≡ combined ten (part (3 * size) k w₀) (i + 1) (λ r. get_or (elements_at (k * (size - k)) m key 8) (r * (size - k) + c) 0)
-  sums c g =
-      let ge = elements_at (k * (size - k)) m key 8 in
-      let entry : get_or w₁ (size + c) 0 ≡ get_or ge (i * (size - k) + c) 0 =
-      wrote.there c g ∙ elements_at-at (size - k) m key place c g ∙ ap (λ (p : ℕ). bits_at m key (p + m * c)) at ∙ sym (ge-at m i k (size - k) c key h g) in
-      let before : get_or w₁ (k + c) 0 ≡ combined ten x i (λ r. get_or ge (r * (size - k) + c) 0) =
-      wrote.elsewhere (k + c) (λ p q. omega arith) ∙ S.sums c g in
-      add_at ten k size (size - k) (get_or w₁ (3 * size + i) 0) w₁ (omega (arith, wrote.long, S.long)) (inl low) c g
-      ∙ ap₂ ◌⊕◌ before (ap₂ (mul ten) factor entry)
-      ∙ sym (combined-suc ten x i (λ r. get_or ge (r * (size - k) + c) 0))
-      ∙ ap (λ (n : ℕ). combined ten x n (λ r. get_or ge (r * (size - k) + c) 0)) (sym (add-one i))
-
-  pub summed-more : Summed size k (elements_at (k * (size - k)) m key 8) (part (3 * size) k w₀) (i + 1) w₀ w'
-  summed-more =
-      rw e
-      (record {
-        long = add-length ten k size (size - k) (get_or w₁ (3 * size + i) 0) w₁ ∙ wrote.long ∙ S.long;
-        vector = λ j g. add-off ten k size (size - k) (get_or w₁ (3 * size + i) 0) w₁ j (inl g) ∙ wrote.elsewhere j (λ p q. omega arith) ∙ S.vector j g;
-        sums = sums;
-        rest = λ j g. add-off ten k size (size - k) (get_or w₁ (3 * size + i) 0) w₁ j (inr (omega arith)) ∙ wrote.elsewhere j (λ p q. omega arith) ∙ S.rest j g;
-      })
-
-pub summed-all : (size k i : ℕ) (ge x w₀ w : List ℕ) → i ≤ k → k ≤ i → Summed size k ge x i w₀ w → Summed size k ge x k w₀ w
-summed-all size k i ge x w₀ w h g c = let z : i ≡ k = omega arith in rw z at c
-
--- the vector is laid, and then the rows are added
-pub laid-again : (size k : ℕ) (w₀ w : List ℕ) → k ≤ size → Laid size k w₀ w → Laid size k w w
-laid-again size k w₀ w few l =
-    record { long = refl; vector = λ j h. l.vector j h ∙ sym (l.rest (3 * size + j) (omega arith)); zeros = l.zeros; rest = λ j h. refl }
-
-pub summed-from : (size k : ℕ) (ge w₀ w w' : List ℕ) → Laid size k w₀ w → Summed size k ge (part (3 * size) k w) k w w' → Summed size k ge (part (3 * size) k w₀) k w₀ w'
-summed-from size k ge w₀ w w' l S =
-    let x : part (3 * size) k w ≡ part (3 * size) k w₀ = part_same (3 * size) k w₀ w l.long (λ i h. l.rest (3 * size + i) (omega arith)) in
-    rw (← x) (record { long = S.long ∙ l.long; vector = S.vector; sums = S.sums; rest = λ j h. S.rest j h ∙ l.rest j h })
-
 -- ---- error values at their places, from the last to the first
 pub error_at-none : (places values : List ℕ) (j : ℕ) → ((a : ℕ) → a < length places → get_or places a 0 ≢ j) → error_at places values j ≡ 0
 unfolding error_at
@@ -196,52 +87,53 @@ module _ (places values : List ℕ) (i : ℕ) (h : i < length places) (g : i < l
       error_at-none (drop (suc i) places) (drop (suc i) values) (get_or places i 0)
       (λ a k. rw get_or-drop (omega (arith, r i (suc i + a) (omega arith) (omega (arith, length-drop (suc i) places)))))
 
-pub added_none : (size t p q : ℕ) (w : List ℕ) → Added size (part p t w) (part q t w) t w w
+pub added_none : (places values w : List ℕ) → Added places values (length places) w w
 unfolding error_at
-added_none size t p q w =
-    let past : length (part p t w) ≤ t = simp length-take (omega arith) in
-    let none : drop t (part p t w) ≡ [] = drop_of_length-le (part p t w) past in
-    record { long = refl; word = λ j h. rw none (sym (zero_right (get_or w j 0))); rest = λ j h. refl }
+added_none places values w =
+    let none : drop (length places) places ≡ [] = drop_of_length-le places {i = length places} (omega arith) in
+    record { long = refl; word = λ j h. rw none (sym (zero_right (get_or w j 0))) }
 
-add-one-value : (size i : ℕ) (places values w₀ w : List ℕ) → i < length places → i < length values → Rising places → get_or places i 0 < size → size ≤ length w₀
-    → Added size places values (suc i) w₀ w → Added size places values i w₀ (set w (get_or places i 0) (get_or w (get_or places i 0) 0 ⊕ get_or values i 0))
-add-one-value size i places values w₀ w h g r low room c =
+add-one-value : (i : ℕ) (places values w₀ w : List ℕ) → i < length places → i < length values → Rising places → get_or places i 0 < length w₀
+    → Added places values (suc i) w₀ w → Added places values i w₀ (set w (get_or places i 0) (get_or w (get_or places i 0) 0 ⊕ get_or values i 0))
+add-one-value i places values w₀ w h g r low c =
     let x = get_or places i 0 in
     let fits : get_or places i 0 < length w = omega (arith, c.long) in
     record {
-      long = simp length-set c.long;
+      long = length-set w x (get_or w x 0 ⊕ get_or values i 0) ∙ c.long;
       word = λ j lt. at-or j x
           (λ q. rw q (get_or-set_same w x (get_or w x 0 ⊕ get_or values i 0) 0 fits
           ∙ ap (λ (y : ℕ). y ⊕ get_or values i 0) (c.word x low ∙ ap (λ (y : ℕ). get_or w₀ x 0 ⊕ y) (error_at-past places values i h g r) ∙ zero_right (get_or w₀ x 0))
           ∙ ap (λ (y : ℕ). get_or w₀ x 0 ⊕ y) (sym (error_at-here places values i h g))))
           (λ d. get_or-set_other w x j (get_or w x 0 ⊕ get_or values i 0) 0 d ∙ c.word j lt ∙ ap (λ (y : ℕ). get_or w₀ j 0 ⊕ y) (sym (error_at-there places values i h g j d)));
-      rest = λ j lt. get_or-set_other w x j (get_or w x 0 ⊕ get_or values i 0) 0 (omega arith) ∙ c.rest j lt;
     }
 
-module _ (size p q t i x : ℕ) (w₀ w : List ℕ)
-    (pre : (size ≤ p) × (size ≤ q) × (p + t ≤ length w₀) × (q + t ≤ length w₀) × Rising (part p t w₀) × ((i : ℕ) → i < t → get_or w₀ (p + i) 0 < size))
-    (some : 0 < i) (few : i ≤ t) (c : Added size (part p t w₀) (part q t w₀) i w₀ w) (e : x ≡ get_or w (p + (i - 1)) 0) where
-  lt : i - 1 < t
-  lt = omega arith
+pub added_more : (i x : ℕ) (places values w₀ w : List ℕ) → 0 < i → i ≤ length places → length values ≡ length places → Rising places
+    → get_or places (i - 1) 0 < length w₀ → x ≡ get_or places (i - 1) 0
+    → Added places values i w₀ w → Added places values (i - 1) w₀ (set w x (get_or w x 0 ⊕ get_or values (i - 1) 0))
+added_more i x places values w₀ w some few same r low e c =
+    let z : suc (i - 1) ≡ i = omega arith in
+    rw e (add-one-value (i - 1) places values w₀ w (omega arith) (omega (arith, same)) r low (rw z c))
 
-  place : x ≡ get_or (part p t w₀) (i - 1) 0
-  place = e ∙ c.rest (p + (i - 1)) (omega (arith, pre.0)) ∙ sym (part_at p t w₀ (i - 1) lt)
+-- ---- the sums, row after row
+pub summed_none : (ge x : List ℕ) (cols n : ℕ) → cols ≤ n → Summed ge x cols 0 (replicate n 0)
+summed_none ge x cols n few c h = get_or-replicate n c 0 0 (omega arith) ∙ sym (combined-nil ten x (λ r. get_or ge (r * cols + c) 0))
 
-  value : get_or w (q + (i - 1)) 0 ≡ get_or (part q t w₀) (i - 1) 0
-  value = c.rest (q + (i - 1)) (omega (arith, pre.1)) ∙ sym (part_at q t w₀ (i - 1) lt)
+pub summed_more : (m k cols place i f : ℕ) (key x row sums : List ℕ) {sums' : List ℕ} → i < k → place ≡ 8 + m * (i * cols)
+    → row ≡ elements_at cols m key place → f ≡ get_or x i 0 → length sums ≡ cols → sums' ≡ row_plus ten f row sums
+    → Summed (elements_at (k * cols) m key 8) x cols i sums → Summed (elements_at (k * cols) m key 8) x cols (i + 1) sums'
+summed_more m k cols place i f key x row sums {sums'} h at rowp fp long e S c g =
+    let ge = elements_at (k * cols) m key 8 in
+    let entry : get_or row c 0 ≡ get_or ge (i * cols + c) 0 =
+    ap (λ (l : List ℕ). get_or l c 0) rowp ∙ elements_at-at cols m key place c g ∙ ap (λ (p : ℕ). bits_at m key (p + m * c)) at
+    ∙ sym (ge-at m i k cols c key h g) in
+    ap (λ (l : List ℕ). get_or l c 0) e ∙ row_plus-at ten f row sums c (omega (arith, long))
+    ∙ ap₂ ◌⊕◌ (S c g) (ap₂ (mul ten) fp entry)
+    ∙ sym (combined-suc ten x i (λ r. get_or ge (r * cols + c) 0))
+    ∙ ap (λ (n : ℕ). combined ten x n (λ r. get_or ge (r * cols + c) 0)) (sym (add-one i))
 
-  low-place : x < size
-  low-place = rw (place ∙ part_at p t w₀ (i - 1) lt) (pre.5 (i - 1) lt)
-
-  pub value-within : x < length w
-  value-within = omega (arith, low-place, c.long, pre.0, pre.2)
-
-  pub added_more : Added size (part p t w₀) (part q t w₀) (i - 1) w₀ (set w x (get_or w x 0 ⊕ get_or w (q + (i - 1)) 0))
-  added_more =
-      let z : suc (i - 1) ≡ i = omega arith in
-      let low : get_or (part p t w₀) (i - 1) 0 < size = rw (sym place) low-place in
-      rw (place, value)
-      (add-one-value size (i - 1) (part p t w₀) (part q t w₀) w₀ w (rw (part_length p t w₀ pre.2) lt) (rw (part_length q t w₀ pre.3) lt) pre.4 low (omega (arith, pre.0, pre.2)) (rw z c))
-
-pub added-all : (size i : ℕ) (places values w₀ w : List ℕ) → i ≤ 0 → Added size places values i w₀ w → Added size places values 0 w₀ w
-added-all size i places values w₀ w h c = let z : i ≡ 0 = omega arith in rw z at c
+pub encoded_parts : (ge x sums : List ℕ) (cols i : ℕ) {front : List ℕ} → i ≡ length x → front ≡ x → Summed ge x cols i sums → Encoded ge x cols (front ++ sums)
+encoded_parts ge x sums cols i {front} all e S =
+    record {
+      vector = λ j h. ap (λ (l : List ℕ). get_or (l ++ sums) j 0) e ∙ get_or-append x sums 0 j h;
+      sums = λ c h. ap (λ (l : List ℕ). get_or (l ++ sums) (length x + c) 0) e ∙ get_or-append-add x sums c 0 ∙ rw all at (S c h);
+    }

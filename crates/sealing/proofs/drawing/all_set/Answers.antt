@@ -1,6 +1,6 @@
 use Rattle.std.proofs.Common.{ap, ◌∙◌}
 use mathlib.Core.Bool.{not}
-use Rattle.sealing.proofs.Elements.{any-has}
+use Rattle.sealing.proofs.Selections.{any-has}
 use Rattle.sealing.proofs.drawing.all_set.Goals as goal
 
 pub returns : goal.returns

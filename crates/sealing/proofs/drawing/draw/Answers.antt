@@ -1,7 +1,24 @@
--- The padded string goes to the front of the ciphertext, and its elements into the work area.
-use Rattle.std.proofs.Common.{arith}
-use Rattle.sealing.proofs.Elements.{draw-is}
+use Rattle.std.proofs.Common.{◌∙◌, sym, ap, length, arith}
+use mathlib.Core.Bool.{not}
+use mathlib.Core.List.{List}
+use Prim.Native.Nat.{ℕ}
+use Rattle.std.proofs.lemmas.Slice.{between_to_end}
+use Rattle.bits.specs.Bits.{elements_in}
+use Rattle.scheme.specs.Lists.{has}
+use Rattle.sealing.proofs.Room.{padded-holds}
+use Rattle.sealing.proofs.Elements.{drawn_elements}
 use Rattle.sealing.proofs.drawing.draw.Goals as goal
 
-pub returns : goal.returns
-returns c = let a = c.args in let p = c.requires in draw-is a.parameters.set c.requires.room a.msg.now a.seed.now a.cipher.now a.work.now c.pad_places.new.out (p.message_length, p.seed_length, p.cipher_length, p.work_length) c.pad_places.ensures (omega arith) (omega arith) c.unpack.new.out c.unpack.ensures
+pub unpack-requires : goal.unpack-requires
+unpack-requires c =
+    let s = c.args.parameters.set in
+    let v = c.args.parameters.valid in
+    (v.wide, c.requires.elements_length ∙ sym (padded-holds v) ∙ ap (elements_in s.m) (sym (c.pad_places.auto.out ∙ c.requires.string_length)))
+
+pub returns-clause-drawn : goal.returns-clause-drawn
+returns-clause-drawn c = drawn_elements c.args.parameters.set c.args.msg.now c.args.seed.now _ c.pad_places.ensures c.unpack.ensures
+
+pub returns-clause-all_set : goal.returns-clause-all_set
+returns-clause-all_set c =
+    let els = c.unpack.new.out in
+    c.all_set.ensures ∙ ap (λ (l : List ℕ). not (has l 0)) (between_to_end els c.args.parameters.set.k (length els) (omega arith))
