@@ -1,5 +1,6 @@
 // The message schedule, the rounds and the compression of a block: FIPS 180-4, section 6.4.2.
-// The schedule is a ring of the last sixteen words, and sixteen rounds are a turn: a compiler then keeps the words in place.
+// The schedule is a ring of the last sixteen words, and a turn is sixteen rounds: a compiler then keeps the words in place. Kept as calls of
+// four rounds by hand, since the compiler does not unroll a loop of sixteen.
 ghost use Rattle.std.specs.Prelude.{◌≡◌, ℕ, ◌+◌, ◌*◌, ◌/◌, ◌<◌, ◌≤◌, List, length, slice_index, slice_set};
 ghost use Rattle.hash.specs.Constants.{k_table};
 ghost use Rattle.hash.specs.Sha.{word, round, plus, compress, chain};

@@ -1,4 +1,4 @@
-// SHA-512 (FIPS 180-4) and the mask generator of document 001, section 7.4.
+// SHA-512 (FIPS 180-4) and the mask generator (RLCE-KEM specification of September 14, 2017, section 7.4).
 // Other crates use `calls`, or, inside the library, `hasher` and `mask`.
 #![tactic(auto)]
 
