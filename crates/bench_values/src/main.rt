@@ -49,14 +49,9 @@ fn work_room() -> [u16; 8192]
     [42405; 8192]
 }
 
-fn wide(x: u8) -> usize
-    ensures { result < 256 }
-{
-    x as usize
-}
-
-fn pair(a: u8, b: u8) -> usize {
-    wide(a) * 256 + wide(b)
+// The number of two bytes.
+fn pair(high: u8, low: u8) -> usize {
+    usize::from(u16::from_be_bytes([high, low]))
 }
 
 fn case_of(h: &[u8; 16]) -> Case {
@@ -64,7 +59,7 @@ fn case_of(h: &[u8; 16]) -> Case {
         call: h[0],
         byte: h[1],
         expected: h[2],
-        label: wide(h[3]),
+        label: usize::from(h[3]),
         first: pair(h[4], h[5]),
         second: pair(h[6], h[7]),
         third: pair(h[8], h[9]),
@@ -88,39 +83,17 @@ fn print_first(s: &[u8], n: usize) {
     }
 }
 
-fn all_bytes(s: &[u8], x: u8) -> bool {
-    let mut i: usize = 0;
-    while i < s.len() {
-        if s[i] != x {
-            return false;
-        }
-        i += 1;
-    }
-    true
-}
-
-fn all_numbers(s: &[u16], x: u16) -> bool {
-    let mut i: usize = 0;
-    while i < s.len() {
-        if s[i] != x {
-            return false;
-        }
-        i += 1;
-    }
-    true
-}
-
 // What an output holds after the call; before it all bytes were 165.
 fn print_output(s: &[u8]) {
-    if s.len() == 0 {
+    if s.is_empty() {
         vectors::text(b"empty");
         return;
     }
-    if all_bytes(s, 0) {
+    if s.iter().all(|&x| x == 0) {
         vectors::text(b"zero");
         return;
     }
-    if all_bytes(s, 165) {
+    if s.iter().all(|&x| x == 165) {
         vectors::text(b"as before");
         return;
     }
@@ -131,15 +104,15 @@ fn print_output(s: &[u8]) {
 // What the work area holds after the call; before it all numbers were 42405.
 fn print_work(s: &[u16]) {
     vectors::text(b"; work ");
-    if s.len() == 0 {
+    if s.is_empty() {
         vectors::text(b"empty\n");
         return;
     }
-    if all_numbers(s, 0) {
+    if s.iter().all(|&x| x == 0) {
         vectors::text(b"zero\n");
         return;
     }
-    if all_numbers(s, 42405) {
+    if s.iter().all(|&x| x == 42405) {
         vectors::text(b"as before\n");
         return;
     }

@@ -19,70 +19,13 @@ const STDIN: i32 = 0;
 // The number of standard output.
 const STDOUT: i32 = 1;
 
-fn wide(x: u8) -> usize
-    ensures { result < 256 }
-{
-    x as usize
-}
-
-// The number of two bytes.
-fn pair(high: u8, low: u8) -> usize
-    ensures { result < 65536 }
-{
-    wide(high) * 256 + wide(low)
-}
-
 // Length i of a head.
 fn length_at(head: &[u8], i: usize) -> usize
     requires { (17 ≤ length head.now) × (i < 6) }
     ensures { result < 65536 }
 {
     let at = 5 + 2 * i;
-    pair(head[at], head[at + 1])
-}
-
-// Every byte becomes 0xA5.
-fn fill_bytes(s: &mut [u8]) {
-    let mut i: usize = 0;
-    while i < s.len() {
-        s[i] = 0xA5;
-        i += 1;
-    }
-}
-
-fn fill_numbers(s: &mut [u16]) {
-    let mut i: usize = 0;
-    while i < s.len() {
-        s[i] = 0xA5A5;
-        i += 1;
-    }
-}
-
-// Whether two slices are the same.
-fn same(s: &[u8], t: &[u8]) -> bool {
-    if s.len() != t.len() {
-        return false;
-    }
-    let mut i: usize = 0;
-    while i < s.len() {
-        if s[i] != t[i] {
-            return false;
-        }
-        i += 1;
-    }
-    true
-}
-
-// Whether every number is v.
-fn all_are(s: &[u16], v: u16) -> bool {
-    let mut i: usize = 0;
-    while i < s.len() {
-        if s[i] != v {
-            return false;
-        }
-        i += 1;
-    }
-    true
+    usize::from(u16::from_be_bytes([head[at], head[at + 1]]))
 }
 
 // The next n bytes of standard input come to the front of s; false where it ends before.
@@ -190,7 +133,7 @@ fn output(n: usize, expected: &mut [u8], got: &[u8]) -> bool
     if !fetch(expected, n) {
         return false;
     }
-    same(&expected[..n], &got[..n])
+    expected[..n] == got[..n]
 }
 
 // Whether the work area is as it must be.
@@ -198,10 +141,8 @@ fn work_is(head: &[u8], work: &[u16]) -> bool
     requires { (17 ≤ length head.now) × (65536 ≤ length work.now) }
 {
     let w = length_at(head, 5);
-    if head[4] == 0 {
-        return all_are(&work[..w], 0);
-    }
-    all_are(&work[..w], 0xA5A5)
+    let number = if head[4] == 0 { 0 } else { 0xA5A5 };
+    work[..w].iter().all(|&x| x == number)
 }
 
 // Whether the answer is as it must be.
@@ -242,9 +183,9 @@ fn judge(
 
 // What a call may write is filled before it.
 fn fill(p: &mut [u8], q: &mut [u8], work: &mut [u16]) {
-    fill_bytes(p);
-    fill_bytes(q);
-    fill_numbers(work);
+    p.fill(0xA5);
+    q.fill(0xA5);
+    work.fill(0xA5A5);
 }
 
 // Makes the call of a case and judges what it leaves.
