@@ -15,10 +15,32 @@ const STDIN: i32 = 0;
 // The number of standard output.
 const STDOUT: i32 = 1;
 
+// The five calls, by their numbers in a head; each greater number is unwrap too.
+#[derive(Clone, Copy, PartialEq, Eq)]
+enum Verb {
+    Setup,
+    Seal,
+    Wrap,
+    Open,
+    Unwrap,
+}
+
+impl From<u8> for Verb {
+    fn from(number: u8) -> Verb {
+        match number {
+            0 => Verb::Setup,
+            1 => Verb::Seal,
+            2 => Verb::Wrap,
+            3 => Verb::Open,
+            _ => Verb::Unwrap,
+        }
+    }
+}
+
 // The head of a case: the call, the set byte for setup, the number that is expected, and the lengths of label, inputs and lent slices.
 #[derive(Clone, Copy)]
 struct Case {
-    call: u8,
+    verb: Verb,
     byte: u8,
     expected: u8,
     label: usize,
@@ -56,7 +78,7 @@ fn pair(high: u8, low: u8) -> usize {
 
 fn case_of(h: &[u8; 16]) -> Case {
     Case {
-        call: h[0],
+        verb: Verb::from(h[0]),
         byte: h[1],
         expected: h[2],
         label: usize::from(h[3]),
@@ -143,20 +165,13 @@ fn call(
     other: &mut [u8],
     work: &mut [u16],
 ) -> Result<usize, Refusal> {
-    let which = c.call;
-    if which == 0 {
-        return calls::founding::setup(c.byte, first, out, other, work);
+    match c.verb {
+        Verb::Setup => calls::founding::setup(c.byte, first, out, other, work),
+        Verb::Seal => calls::closing::seal(first, second, third, out, work),
+        Verb::Wrap => calls::closing::wrap(first, second, third, out, work),
+        Verb::Open => calls::disclosing::open(first, second, out, work).map(|()| 0),
+        Verb::Unwrap => calls::disclosing::unwrap(first, second, out, work).map(|()| 0),
     }
-    if which == 1 {
-        return calls::closing::seal(first, second, third, out, work);
-    }
-    if which == 2 {
-        return calls::closing::wrap(first, second, third, out, work);
-    }
-    if which == 3 {
-        return calls::disclosing::open(first, second, out, work).map(|()| 0);
-    }
-    calls::disclosing::unwrap(first, second, out, work).map(|()| 0)
 }
 
 fn show(
@@ -168,12 +183,11 @@ fn show(
     other: &mut [u8],
     work: &mut [u16],
 ) {
-    let which = c.call;
     let answer = call(c, first, second, third, out, other, work);
     print_answer(c.expected, answer);
     vectors::text(b"; ");
     print_output(out);
-    if which == 0 {
+    if c.verb == Verb::Setup {
         vectors::text(b", ");
         print_output(other);
     }
@@ -272,8 +286,9 @@ fn one() -> bool {
 }
 
 fn main() {
-    let mut turns: usize = 10000;
-    while 0 < turns && one() {
-        turns -= 1;
+    for _ in 0..10000 {
+        if !one() {
+            break;
+        }
     }
 }

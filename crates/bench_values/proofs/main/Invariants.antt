@@ -1,8 +1,0 @@
--- A count of turns falls; nothing is said of what is read.
-use Rattle.bench_values.proofs.main.Given as goal
-
-abbrev pub invariant-loop-turns : goal.invariant-loop-turns
-invariant-loop-turns l = Unit {0}
-
-abbrev pub decreases-loop-turns : goal.decreases-loop-turns
-decreases-loop-turns l = l.turns
