@@ -36,8 +36,33 @@ fn fetch(s: &mut [u8], n: usize) -> bool
     got == n
 }
 
+/// Which call a case makes.
+#[derive(Clone, Copy, Debug, PartialEq, Eq)]
+enum Verb {
+    Setup,
+    Seal,
+    Open,
+    Wrap,
+    Unwrap,
+    BySeeds,
+}
+
+impl From<u8> for Verb {
+    fn from(byte: u8) -> Verb {
+        match byte {
+            0 => Verb::Setup,
+            1 => Verb::Seal,
+            2 => Verb::Open,
+            3 => Verb::Wrap,
+            4 => Verb::Unwrap,
+            _ => Verb::BySeeds,
+        }
+    }
+}
+
+/// The answer of a call; one that has no count has count 0.
 fn call(
-    verb: u8,
+    verb: Verb,
     set: u8,
     x: &[u8],
     y: &[u8],
@@ -46,22 +71,14 @@ fn call(
     q: &mut [u8],
     work: &mut [u16],
 ) -> Result<usize, Refusal> {
-    if verb == 0 {
-        return calls::founding::setup(set, x, p, q, work);
+    match verb {
+        Verb::Setup => calls::founding::setup(set, x, p, q, work),
+        Verb::Seal => calls::closing::seal(x, y, z, p, work),
+        Verb::Open => calls::disclosing::open(x, y, p, work).map(|()| 0),
+        Verb::Wrap => calls::closing::wrap(x, y, z, p, work),
+        Verb::Unwrap => calls::disclosing::unwrap(x, y, p, work).map(|()| 0),
+        Verb::BySeeds => seeded::way(x, y, z, p),
     }
-    if verb == 1 {
-        return calls::closing::seal(x, y, z, p, work);
-    }
-    if verb == 2 {
-        return calls::disclosing::open(x, y, p, work).map(|()| 0);
-    }
-    if verb == 3 {
-        return calls::closing::wrap(x, y, z, p, work);
-    }
-    if verb == 4 {
-        return calls::disclosing::unwrap(x, y, p, work).map(|()| 0);
-    }
-    seeded::way(x, y, z, p)
 }
 
 // The call with the outputs and the work area cut to their lengths.
@@ -81,7 +98,7 @@ fn call_written(
     let e = length_at(head, 4);
     let w = length_at(head, 5);
     call(
-        head[0],
+        Verb::from(head[0]),
         head[1],
         x,
         y,
@@ -117,23 +134,14 @@ fn inputs(head: &[u8], x: &mut [u8], y: &mut [u8], z: &mut [u8]) -> bool
     requires head_long { 17 ≤ length head.now }
     requires inputs { (65536 ≤ length x.old) × (65536 ≤ length y.old) × (65536 ≤ length z.old) }
 {
-    if !fetch(x, length_at(head, 0)) {
-        return false;
-    }
-    if !fetch(y, length_at(head, 1)) {
-        return false;
-    }
-    fetch(z, length_at(head, 2))
+    fetch(x, length_at(head, 0)) && fetch(y, length_at(head, 1)) && fetch(z, length_at(head, 2))
 }
 
 // Reads an output as it must be, n bytes, and compares.
 fn output(n: usize, expected: &mut [u8], got: &[u8]) -> bool
     requires { (n ≤ length expected.old) × (n ≤ length got.now) }
 {
-    if !fetch(expected, n) {
-        return false;
-    }
-    expected[..n] == got[..n]
+    fetch(expected, n) && expected[..n] == got[..n]
 }
 
 // Whether the work area is as it must be.
@@ -141,18 +149,15 @@ fn work_is(head: &[u8], work: &[u16]) -> bool
     requires { (17 ≤ length head.now) × (65536 ≤ length work.now) }
 {
     let w = length_at(head, 5);
-    let number = if head[4] == 0 { 0 } else { 0xA5A5 };
-    work[..w].iter().all(|&x| x == number)
+    let left = if head[4] == 0 { 0 } else { 0xA5A5 };
+    work[..w].iter().all(|x| *x == left)
 }
 
 // Whether the answer is as it must be.
 fn answer_is(head: &[u8], a: Result<usize, Refusal>) -> bool
     requires { 17 ≤ length head.now }
 {
-    if seeded::number(a) != head[2] {
-        return false;
-    }
-    seeded::count(a) == head[3]
+    seeded::number(a) == head[2] && seeded::count(a) == head[3]
 }
 
 // Whether all is as it must be after a call; both outputs are read in any case.
@@ -169,16 +174,7 @@ fn judge(
 {
     let first = output(length_at(head, 3), expected, p);
     let second = output(length_at(head, 4), expected, q);
-    if !first {
-        return false;
-    }
-    if !second {
-        return false;
-    }
-    if !work_is(head, work) {
-        return false;
-    }
-    answer_is(head, a)
+    first && second && work_is(head, work) && answer_is(head, a)
 }
 
 // What a call may write is filled before it.
@@ -241,10 +237,7 @@ fn case(
     requires inputs { (65536 ≤ length x.old) × (65536 ≤ length y.old) × (65536 ≤ length z.old) }
     requires outputs { (65536 ≤ length p.old) × (65536 ≤ length q.old) × (65536 ≤ length work.old) × (65536 ≤ length expected.old) }
 {
-    if !inputs(head, x, y, z) {
-        return false;
-    }
-    filled(head, x, y, z, p, q, expected, work)
+    inputs(head, x, y, z) && filled(head, x, y, z, p, q, expected, work)
 }
 
 // One for a case that agrees, and none, with a line, for one that differs.
@@ -282,9 +275,9 @@ fn main() {
     let mut q = io::large_buffer();
     let mut expected = io::large_buffer();
     let mut work = numbers();
-    let mut agree: usize = 0;
-    let mut i: usize = 0;
-    while i < 100000 {
+    let mut agree = 0;
+    let mut cases = 0;
+    for i in 0..100_000 {
         if io::read_full(STDIN, &mut head) < 17 {
             break;
         }
@@ -299,7 +292,7 @@ fn main() {
             &mut work,
         );
         agree += score(i, agrees);
-        i += 1;
+        cases = i + 1;
     }
-    sum_up(agree, i);
+    sum_up(agree, cases);
 }

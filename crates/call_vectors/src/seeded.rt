@@ -19,31 +19,7 @@ pub fn count(answer: Result<usize, Refusal>) -> u8 {
     answer.map_or(0, |count| (count % 256) as u8)
 }
 
-// Room for the random bytes of a setup and of a sealing, for the keys and for the work area of set 1.
-fn random_room() -> [u8; 48617]
-    ensures { 48617 ≡ length result }
-{
-    [0; 48617]
-}
-
-fn blocks_room() -> [u8; 3008]
-    ensures { 3008 ≡ length result }
-{
-    [0; 3008]
-}
-
-fn public_room() -> [u8; 118441]
-    ensures { 118441 ≡ length result }
-{
-    [0; 118441]
-}
-
-fn private_room() -> [u8; 121666]
-    ensures { 121666 ≡ length result }
-{
-    [0; 121666]
-}
-
+// Kept in a function of its own, which tells the length: the check, which would count it, does not come to the end of so many.
 fn work_room() -> [u16; 1336384]
     ensures { 1336384 ≡ length result }
 {
@@ -57,7 +33,7 @@ fn found(
     private: &mut [u8],
     work: &mut [u16],
 ) -> Result<usize, Refusal> {
-    let mut random = random_room();
+    let mut random = [0u8; 48617];
     let _ = hash::calls::mask(seed, &mut random);
     calls::founding::setup(0x11, &random, public, private, work)
 }
@@ -71,7 +47,7 @@ fn close(
     work: &mut [u16],
 ) -> Result<usize, Refusal> {
     let mut message = [0u8; 504];
-    let mut blocks = blocks_room();
+    let mut blocks = [0u8; 3008];
     let _ = hash::calls::mask(text, &mut message);
     let _ = hash::calls::mask(seed, &mut blocks);
     calls::closing::seal(public, &blocks, &message, cipher, work)
@@ -87,12 +63,6 @@ fn digests(public: &[u8], private: &[u8], cipher: &[u8], opened: &[u8], out: &mu
     let _ = hash::calls::sha512(opened, &mut out[192..256]);
 }
 
-fn put(out: &mut [u8], i: usize, v: u8)
-    requires { i < length out.old }
-{
-    out[i] = v;
-}
-
 // Then the numbers of the three answers, and the counts of the first two.
 fn answers(
     founded: Result<usize, Refusal>,
@@ -102,11 +72,11 @@ fn answers(
 )
     requires { 261 ≤ length out.old }
 {
-    put(out, 256, number(founded));
-    put(out, 257, count(founded));
-    put(out, 258, number(closed));
-    put(out, 259, count(closed));
-    put(out, 260, number(opened));
+    out[256] = number(founded);
+    out[257] = count(founded);
+    out[258] = number(closed);
+    out[259] = count(closed);
+    out[260] = number(opened);
 }
 
 // Both.
@@ -153,8 +123,8 @@ pub fn way(x: &[u8], y: &[u8], z: &[u8], out: &mut [u8]) -> Result<usize, Refusa
     if out.len() != 261 {
         return Err(Refusal::WrongLength);
     }
-    let mut public = public_room();
-    let mut private = private_room();
+    let mut public = [0u8; 118441];
+    let mut private = [0u8; 121666];
     let mut work = work_room();
     walk(x, y, z, &mut public, &mut private, &mut work, out);
     Ok(0)

@@ -9,7 +9,8 @@ use scheme::Refusal;
 // The number of standard output.
 const STDOUT: i32 = 1;
 
-// The slices that set 1 takes. The lengths are told, since the check does not count so far.
+// The slices that set 1 takes. Kept in functions of their own, which tell the lengths: the check, which would count them, does not come to
+// the end of so many.
 fn public_room() -> [u8; 118441]
     ensures { 118441 ≡ length result }
 {
