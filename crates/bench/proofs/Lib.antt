@@ -1,2 +1,2 @@
--- THEOREM table-holds: 01's bench values marked P, all at once; bench-values: the same by name.
+-- THEOREM table-holds: all the known values at once; bench-values: the same by name.
 pub mod Values

@@ -43,7 +43,7 @@ tested (l ∷ ls) h =
     let p = both (same l.given l.stated) (test ls) h in
     (same-eq l.given l.stated p.0, tested ls p.1)
 
--- THEOREM: 01's bench values marked P
+-- THEOREM: all the known values
 pub table-holds : (b : ℕ) → Holds (table b)
 unfolding table test same mul act times_x bits_of bits value grouped elements packed tab turns inverted identity swapped shuffled blocks
 table-holds b = tested (table b) tt

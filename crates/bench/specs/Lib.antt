@@ -1,2 +1,2 @@
--- The table of 01's bench values, and what it says line by line.
+-- The table of known values, and what it says line by line.
 pub mod Table

@@ -1,2 +1,2 @@
-// The bench values of paper 01 that are marked P, as one table over the definitions; no code.
+// Known values of the definitions that are small enough to be computed, as one table; no code.
 #![tactic(auto)]

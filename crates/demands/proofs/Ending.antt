@@ -1,4 +1,4 @@
--- Demand 1: how every call ends.
+-- How every call ends.
 use mathlib.Core.Path.{◌≡◌, refl}
 use mathlib.Core.Bool.{Bool, true, false, ◌&&◌}
 use mathlib.Core.List.{List, [], ◌∷◌}
@@ -198,7 +198,7 @@ module _ (key cipher out work : List ℕ) (answer : Opened) (out' work' : List �
       go None o = of-unknown o
       go (Some s) o = unwrap-checked s (byte ∷ k) (open_lengths s (length (byte ∷ k)) (length cipher) (length work)) o
 
--- THEOREM (demand 1).
+-- THEOREM (demand1). How every call ends.
 pub demand1 : Demand1
 demand1 =
     record {

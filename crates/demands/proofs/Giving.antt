@@ -1,4 +1,4 @@
--- Demand 2: past the first checks every call gives what the papers give.
+-- Past the first checks every call gives what the definitions give.
 use mathlib.Core.Path.{◌≡◌, refl, sym, ap, ◌∙◌}
 use mathlib.Core.Bool.{Bool, true, false}
 use mathlib.Core.List.{List, ◌∷◌}
@@ -91,7 +91,7 @@ module _ (s : Set) (byte : ℕ) (named : set_of byte ≡ Some s) where
         let r : UnwrapSized true s (byte ∷ key) cipher out work answer out' work' = rw (both _ _ (true-le _ _ g) (true-le _ _ h)) at q in
         r.case
 
--- THEOREM (demand 2).
+-- THEOREM (demand2). Every call gives what the definitions give.
 pub demand2 : (s : Set) → Demand2 s
 demand2 s =
     record {

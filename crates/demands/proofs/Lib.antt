@@ -2,7 +2,7 @@
 --   Finding    at-most-one (every key that is neither malformed nor singular)
 --   Opening    opens, once (every good pair)
 --   Only       only (every key)
---   Promised   promised (every good pair: demand 3)
+--   Promised   promised (every good pair)
 --   Setup      setup-pairs (every pair of setup is good)
 --   Blocks     block-triple, sealed (what sealing gives is the ciphertext of a triple)
 --   Ending     demand1 (how every call ends);  Giving  demand2 (what it gives)

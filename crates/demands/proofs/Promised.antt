@@ -1,4 +1,4 @@
--- Demand 3 holds of every good pair.
+-- What is promised holds of every good pair.
 use mathlib.Core.Path.{◌≡◌, refl}
 use mathlib.Core.List.{List}
 use Prim.Native.Nat.{ℕ}
@@ -21,7 +21,7 @@ module _ (s : Set) (ok : Valid s) (e : width (field_of s) ≡ s.m) (public priva
   G : IsGood s ok (read s private) S
   G = good-el s ok (read s private) S (λ i l. rw P.same at (P.rows i l)) P.regular
 
-  -- THEOREM (promised). Demand 3, of every good pair.
+  -- THEOREM (promised). What is promised, of every good pair.
   pub promised : Promised s public private
   promised =
       record {

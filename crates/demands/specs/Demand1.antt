@@ -1,6 +1,6 @@
--- Demand 1: every call takes any key, random bytes, ciphertext and lengths, and ends with a result or a numbered refusal. "A refusal for the set
+-- How every call ends: it takes any key, random bytes, ciphertext and lengths, and ends with a result or a numbered refusal. A refusal for the set
 -- byte, a length or another first check writes nothing. Any other refusal zeroes the output buffers. The work area ends zeroed in every call that
--- gets past the first checks." Said of what each call promises (crate `scheme`, Calls), for all inputs.
+-- gets past the first checks. Said of what each call promises (crate `scheme`, Calls), for all inputs.
 use Rattle.std.specs.Prelude.{◌≡◌, List, ℕ, Result, Ok, Err}
 use Rattle.scheme.specs.declared.Refusal.{Refusal}
 use Rattle.scheme.specs.declared.Refusal.TheVariants.{UnknownSet, WrongLength, FewMultipliers, FewElements, NoWindow, Dependent, Malformed, Singular, ZeroValues, NotOpened, WrongSecret}

@@ -1,4 +1,4 @@
--- Demand 2: key setup, sealing and opening give exactly what the papers give, past the first checks. The right sides are the definitions of the
+-- Key setup, sealing and opening give exactly what the scheme's definitions give, past the first checks. The right sides are the definitions of the
 -- scheme (crate `scheme`: Setup, Sealing, Opening); said of what each call promises, for every set of the table.
 use Rattle.std.specs.Prelude.{◌≡◌, List, ◌∷◌, ℕ, ◌/◌, ◌%◌, ◌≤◌, ◌<◌, length, Some, Ok, Err}
 use Rattle.sets.specs.declared.Set.{Set}
@@ -18,7 +18,7 @@ pub record SetupLent (s : Set) (random public private work : List ℕ) : Type 0 
   pub private_long : length private ≡ s.private
   pub work_long : length work ≡ s.work
 
--- the lengths that sealing and wrapping take: "B blocks of k3 + 2t bytes, B from 1 to 16"
+-- the lengths that sealing and wrapping take: B blocks of k3 + 2t bytes, B from 1 to 16
 pub record SealLent (s : Set) (key random cipher work : List ℕ) : Type 0 where
   pub key_long : length key ≡ s.public
   pub whole : length random % s.block ≡ 0
@@ -34,7 +34,7 @@ pub record OpenLent (s : Set) (key cipher work : List ℕ) : Type 0 where
   pub work_long : length work ≡ s.work
 
 pub record Demand2 (s : Set) : Type 0 where
-  -- the pair that the papers give, and its count; or the refusal that they give
+  -- the pair that the definitions give, and its count; or the refusal that they give
   pub setup_made : (byte : ℕ) → set_of byte ≡ Some s → (random public private work : List ℕ) → SetupLent s random public private work
       → (p q : List ℕ) (count : ℕ) → setup s random ≡ made p q count
       → setup_ends byte random public private work ≡ record { answer = Ok count; public = p; private = q; work = zeroed work }

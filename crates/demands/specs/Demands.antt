@@ -1,4 +1,4 @@
--- Demand 3 (01, What a contract has to decide here; 02, ticket 10): what is promised of key pairs, over the definitions of the scheme.
+-- What is promised of key pairs, over the definitions of the scheme.
 -- All is about byte strings: keys, messages, ciphertexts.
 use Rattle.std.specs.Prelude.{◌≡◌, true, false, List, ℕ, ◌+◌, ◌-◌, ◌*◌, ◌/◌, ◌<◌, eqb, ltb, length, get_or, Some, Ok, Err}
 use Rattle.lists.specs.Loops.{pick, tab}
@@ -54,8 +54,8 @@ unfoldable pub public_row : Set → List ℕ → ℕ → List ℕ
 public_row s ge i =
     tab (s.n + s.w) (λ j. pick (ltb j s.k) (pick (eqb j i) 1 0) (get_or ge (i * (s.n + s.w - s.k) + (j - s.k)) 0))
 
--- 02, ticket 10: "both read well, carry the same set byte and GE, every row of [I, GE] lands in the code after the opening's own
--- undoing, and W has an inverse"
+-- both read well, carry the same set byte and GE, every row of [I, GE] lands in the code after the opening's own
+-- undoing, and W has an inverse
 pub record GoodPair (s : Set) (public private : List ℕ) : Type 0 where
   pub public_long : length public ≡ s.public
   pub private_long : length private ≡ s.private
@@ -86,12 +86,12 @@ AtMostOne s =
     (key cipher a b : List ℕ) → length key ≡ s.private → WellFormed s key → (Singular s (read s key) → ⊥)
     → Opens s key cipher a → Opens s key cipher b → a ≡ b
 
--- for every good pair: demand 3
+-- for every good pair: what is promised of it
 pub record Promised (s : Set) (public private : List ℕ) : Type 0 where
   pub once : Once s public
   pub exactly : OpensExactly s public private
 
--- every pair of setup is good; so its private key is never refused (7, 8), and demand 3 holds of it
+-- every pair of setup is good; so its private key is never refused (7, 8), and the same is promised of it
 abbrev pub SetupGood : Set → Type 0
 SetupGood s = (public private : List ℕ) → Ours s public private → GoodPair s public private
 
@@ -133,7 +133,7 @@ WrapOpens s =
     → UnwrapEnds private (wrap_ends public random secret cipher work).cipher out work₁ answer out' work'
     → (answer ≡ Ok tt) × (out' ≡ secret)
 
--- ---- sealing's choice of a block (01: "A block with any zero error value is passed over")
+-- ---- sealing's choice of a block: a block with any zero error value is passed over
 
 -- random block b has an error value that is zero, for this message
 abbrev pub HasZero : Set → List ℕ → List ℕ → ℕ → Type 0
@@ -172,7 +172,7 @@ WrapChooses s =
     (key random secret cipher work : List ℕ) → get_or key 0 0 ≡ s.byte
     → Chosen s (secret_message s secret) random (wrap_ends key random secret cipher work).answer
 
--- 01: "if two answers both satisfy it, they are shown equal". What opening and unwrapping promise leaves one answer and one content of
+-- Two answers that both satisfy it are equal: what opening and unwrapping promise leaves one answer and one content of
 -- each buffer, for all inputs
 abbrev pub OpenOnce : Type 0
 OpenOnce =

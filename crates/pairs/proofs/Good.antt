@@ -1,4 +1,4 @@
--- Demand 3 for every good pair: undoing takes words of [I, GE] to code words and adds no weight, so these words are as far apart as code
+-- Of every good pair: undoing takes words of [I, GE] to code words and adds no weight, so these words are as far apart as code
 -- words are; and the vector is read back from the code word.
 use mathlib.Core.Path.{◌≡◌, sym, ◌∙◌}
 use Prim.Native.Nat.{ℕ, ◌+◌, ◌≤◌, ◌<◌}

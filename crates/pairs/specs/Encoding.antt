@@ -1,4 +1,4 @@
--- The word of a vector under the public matrix (01, Padding, sealing, opening; 001, 6.2).
+-- The word of a vector under the public matrix (RLCE-KEM specification of September 14, 2017, section 6.2).
 use Rattle.std.specs.Prelude.{ℕ, ◌-◌}
 use Rattle.std.proofs.Math.Decide.{dec_lt}
 use Rattle.theory.specs.Field.{Field}
@@ -9,7 +9,7 @@ module _ (K : Field) (k : ℕ) (ge : Mat K) where
   open K use {F, mul as ◌⊗◌}
 
   infixl 70 ◌⊗◌
-  -- 01, Key setup: the matrix [I, GE]
+  -- the matrix [I, GE]
   unfoldable pub public : Mat K
   public i j = pick (dec_lt j k) (unit K i j) (ge i (j - k))
 

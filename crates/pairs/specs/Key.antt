@@ -1,4 +1,4 @@
--- A private key over a field, and the opening's undoing (01, Padding, sealing, opening; 001, 6.3).
+-- A private key over a field, and the opening's undoing (RLCE-KEM specification of September 14, 2017, section 6.3).
 use Rattle.std.specs.Prelude.{◌≢◌, ℕ, ◌+◌, ◌-◌, ◌*◌, ◌<◌}
 use Rattle.std.proofs.Math.Decide.{dec_lt}
 use Rattle.theory.specs.Field.{Field}
@@ -19,7 +19,7 @@ pub record Key (K : Field) : Type 0 where
   -- GE, by row and column; the public key holds the same
   pub ge : ℕ → ℕ → K.F
 
--- 01, Key setup: a key is malformed (7) unless its lists are permutations and no inverse is zero
+-- a key is malformed (7) unless its lists are permutations and no inverse is zero
 pub record WellFormed (K : Field) (s : Sizes) (κ : Key K) : Type 0 where
   pub first : Inverse s.n κ.q1 κ.p1
   pub second : Inverse (total s) κ.q2 κ.p2
@@ -30,18 +30,18 @@ module _ (K : Field) (s : Sizes) (κ : Key K) where
 
   infixl 65 ◌⊕◌
   infixl 70 ◌⊗◌
-  -- 6.3, 6 to 8: "undo P2, multiply pairs by the stored column and keep one element of each"
+  -- section 6.3, steps 6 to 8: undo P2, multiply pairs by the stored column and keep one element of each
   unfoldable pub kept : (ℕ → F) → ℕ → F
   kept y j =
       let d = plain s in
       let at : ℕ → F = λ i. y (κ.q2 i) in
       pick (dec_lt j d) (at j) (at (d + 2 * (j - d)) ⊗ κ.columns (2 * (j - d)) ⊕ at (d + 2 * (j - d) + 1) ⊗ κ.columns (2 * (j - d) + 1))
 
-  -- 6.3, 9 and 10: "undo P1, multiply by the stored inverses"
+  -- section 6.3, steps 9 and 10: undo P1, multiply by the stored inverses
   unfoldable pub undone : (ℕ → F) → ℕ → F
   undone y j = κ.inverses j ⊗ kept y (κ.q1 j)
 
-  -- 6.3, 14 and 15: a code word times the multipliers, in the order that P1 made
+  -- section 6.3, steps 14 and 15: a code word times the multipliers, in the order that P1 made
   unfoldable pub redone : (ℕ → F) → ℕ → F
   redone c j = c (κ.p1 j) ⊗ inv (κ.inverses (κ.p1 j))
 

@@ -1,4 +1,4 @@
--- The numbers of a set that the mathematics goes by (01, the table of sets), and permutations.
+-- The numbers of a set that the mathematics goes by, and permutations.
 use Rattle.std.specs.Prelude.{◌≡◌, ℕ, ◌+◌, ◌-◌, ◌≤◌, ◌<◌}
 
 pub record Sizes : Type 0 where

@@ -1,4 +1,4 @@
--- What each call promises, for all inputs: its answer, and what every lent buffer holds afterwards (01, Answer numbers, Lengths that must match).
+-- What each call promises, for all inputs: its answer, and what every lent buffer holds afterwards.
 use Rattle.std.specs.Prelude.{◌≡◌, Bool, true, false, ◌&&◌, List, [], ◌∷◌, ℕ, ◌/◌, ◌%◌, eqb, leb, ltb, length, take, replicate, Option, Some, None, Ok, Err}
 use Rattle.lists.specs.Loops.{pick}
 use Rattle.sets.specs.declared.Set.{Set}
@@ -50,7 +50,7 @@ pub record SealEnd : Type 0 where
   pub cipher : List ℕ
   pub work : List ℕ
 
--- "B blocks of k3 + 2t bytes, B from 1 to 16"; the lengths of the key, the random bytes, the ciphertext and the work area
+-- B blocks of k3 + 2t bytes, B from 1 to 16; the lengths of the key, the random bytes, the ciphertext and the work area
 abbrev pub seal_lengths : Set → ℕ → ℕ → ℕ → ℕ → Bool
 seal_lengths s key random cipher work =
     eqb key s.public && (eqb (random % s.block) 0 && (leb 1 (random / s.block) && (leb (random / s.block) 16 && (eqb cipher s.cipher && eqb work s.work))))
@@ -62,7 +62,7 @@ after_seal s key random msg cipher work =
     pick (ltb b (length random / s.block)) (record { answer = Ok b; cipher = sealed_by s key msg random b; work = zeroed work })
     (record { answer = Err ZeroValues; cipher = zeroed cipher; work = zeroed work })
 
--- "Order: an empty key (2), set byte (1), other lengths (2)"
+-- Order: an empty key (2), set byte (1), other lengths (2)
 abbrev pub seal_of : Option Set → List ℕ → List ℕ → List ℕ → List ℕ → List ℕ → SealEnd
 seal_of None key random msg cipher work = record { answer = Err UnknownSet; cipher = cipher; work = work }
 seal_of (Some s) key random msg cipher work =
@@ -73,7 +73,7 @@ unfoldable pub seal_ends : List ℕ → List ℕ → List ℕ → List ℕ → L
 seal_ends [] random msg cipher work = record { answer = Err WrongLength; cipher = cipher; work = work }
 seal_ends (byte ∷ key) random msg cipher work = seal_of (set_of byte) (byte ∷ key) random msg cipher work
 
--- then "secret length (11)"
+-- then secret length (11)
 abbrev pub wrap_of : Option Set → List ℕ → List ℕ → List ℕ → List ℕ → List ℕ → SealEnd
 wrap_of None key random secret cipher work = record { answer = Err UnknownSet; cipher = cipher; work = work }
 wrap_of (Some s) key random secret cipher work =
@@ -139,7 +139,7 @@ abbrev pub OpenEnds : List ℕ → List ℕ → List ℕ → List ℕ → Opened
 OpenEnds [] cipher out work answer out' work' = Untouched WrongLength out work answer out' work'
 OpenEnds (byte ∷ key) cipher out work answer out' work' = OpenOf (set_of byte) (byte ∷ key) cipher out work answer out' work'
 
--- 6.4: "Unwrapping returns the first bytes and ignores the rest"
+-- section 6.4: Unwrapping returns the first bytes and ignores the rest
 abbrev pub GivesSecret : Set → List ℕ → List ℕ → ℕ → List ℕ → Type 0
 GivesSecret s key cipher len l = (msg : List ℕ) × Opens s key cipher msg × (l ≡ take len msg)
 

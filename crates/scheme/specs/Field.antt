@@ -1,4 +1,4 @@
--- The field of a set: GF(2^10) for every set of the table (01, Field and bits).
+-- The field of a set: GF(2^10) for every set of the table.
 use Rattle.gf.specs.Field.{Modulus}
 use Rattle.gf.specs.Ten.{ten}
 use Rattle.sets.specs.declared.Set.{Set}

@@ -1,4 +1,4 @@
--- 01, Key setup: both key forms as byte strings, and what is read from a key, well formed or not.
+-- Both key forms as byte strings, and what is read from a key, well formed or not.
 use Rattle.std.specs.Prelude.{◌≡◌, ◌≢◌, true, List, ◌∷◌, ◌++◌, ℕ, ◌+◌, ◌*◌, ◌<◌, get_or, take, drop}
 use Rattle.bits.specs.Bits.{packed, elements_at, tail_zero}
 use Rattle.bits.specs.Numbers.{numbers16, bytes16}
@@ -6,7 +6,7 @@ use Rattle.perm.specs.Perm.{Perm}
 use Rattle.sets.specs.declared.Set.{Set}
 use Rattle.sets.specs.Valid.{key_elements}
 
--- "Public key: set byte, GE by rows"; spare bits zero
+-- Public key: set byte, GE by rows; spare bits zero
 unfoldable pub public_key : Set → List ℕ → List ℕ
 public_key s ge = s.byte ∷ packed s.m ge
 
@@ -21,7 +21,7 @@ pub record Private : Type 0 where
   pub inverses : List ℕ
   pub ge : List ℕ
 
--- "Private key: set byte; inverse of P1, inverse of P2 as 16-bit numbers; the first column of each inverse block (upper, lower); inverses of v; GE; spare bits zero"
+-- Private key: set byte; inverse of P1, inverse of P2 as 16-bit numbers; the first column of each inverse block (upper, lower); inverses of v; GE; spare bits zero
 unfoldable pub private_key : Set → Private → List ℕ
 private_key s κ =
     s.byte ∷ (bytes16 κ.q1 ++ (bytes16 κ.q2 ++ packed s.m (κ.columns ++ (κ.inverses ++ κ.ge))))

@@ -18,6 +18,6 @@ unfoldable pub passing : (ℕ → Bool) → ℕ → ℕ → List ℕ
 passing p i zero = []
 passing p i (suc n) = passing p i n ++ pick (p (i + n)) ((i + n) ∷ []) []
 
--- 7.8, permu_inv: "For i = 0, .., u - 1, let P^-1[P[i]] = i"
+-- section 7.8, permu_inv: For i = 0, .., u - 1, let P^-1[P[i]] = i
 abbrev pub inverse_of : List ℕ → List ℕ
 inverse_of P = inverted P (replicate (length P) 0)

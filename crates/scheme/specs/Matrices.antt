@@ -1,4 +1,4 @@
--- 01, Key setup, and 001, 7.9: matrices as functions of row and column, and the chain from G0 to the matrix that is reduced.
+-- Key setup (RLCE-KEM specification of September 14, 2017, section 7.9): matrices as functions of row and column, and the chain from G0 to the matrix that is reduced.
 use Rattle.std.specs.Prelude.{List, ℕ, ◌+◌, ◌-◌, ◌*◌, ◌/◌, ◌%◌, eqb, ltb, get_or}
 use Rattle.lists.specs.Loops.{pick, tab}
 use Rattle.gf.specs.Field.{Modulus, ◌⊕◌, mul}
@@ -10,15 +10,15 @@ Matrix = ℕ → ℕ → ℕ
 unfoldable pub listed : ℕ → ℕ → Matrix → List ℕ
 listed rows cols M = tab (rows * cols) (λ p. M (p / cols) (p % cols))
 
--- "Multiply column i by v_i"
+-- Multiply column i by v_i
 unfoldable pub scale_columns : Modulus → List ℕ → Matrix → Matrix
 scale_columns F v M i j = mul F (M i j) (get_or v j 0)
 
--- "permute columns by P (new j is old P[j])"
+-- permute columns by P (new j is old P[j])
 unfoldable pub permute_columns : List ℕ → Matrix → Matrix
 permute_columns P M i j = M i (get_or P j 0)
 
--- "put column j of R after column n-w+j"; d = n - w, and column c from d on belongs to the pair (c - d) / 2
+-- put column j of R after column n-w+j; d = n - w, and column c from d on belongs to the pair (c - d) / 2
 unfoldable pub join_columns : ℕ → Matrix → Matrix → Matrix
 join_columns d R M i c =
     pick (ltb c d) (M i c) (pick (eqb ((c - d) % 2) 0) (M i (d + (c - d) / 2)) (R i ((c - d) / 2)))
@@ -27,7 +27,7 @@ join_columns d R M i c =
 abbrev pub block_entry : List ℕ → ℕ → ℕ → ℕ → ℕ
 block_entry A pair r side = get_or A (4 * pair + 2 * r + side) 0
 
--- "multiply each such pair from the right by its block"
+-- multiply each such pair from the right by its block
 unfoldable pub multiply_pairs : Modulus → ℕ → List ℕ → Matrix → Matrix
 multiply_pairs F d A M i c =
     let pair = (c - d) / 2 in

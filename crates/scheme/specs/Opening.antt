@@ -1,4 +1,4 @@
--- 01, Padding, sealing, opening; 001, 6.3: what opening a ciphertext means. It rests on the code word within t places, so it is a relation;
+-- What opening a ciphertext means (RLCE-KEM specification of September 14, 2017, section 6.3). It rests on the code word within t places, so it is a relation;
 -- that it gives at most one message is a theorem.
 use Rattle.std.specs.Prelude.{◌≡◌, ◌≢◌, Bool, true, not, List, ◌++◌, ℕ, ◌+◌, ◌-◌, ◌*◌, ◌≤◌, ◌<◌, eqb, ltb, length, get_or, take}
 use Rattle.lists.specs.Loops.{pick, tab}
@@ -15,7 +15,7 @@ use Rattle.scheme.specs.Sealing.{combined, encoded}
 
 -- ---- from the received word to the word that is decoded
 
--- 6.3, 6 to 8: "undo P2, multiply pairs by the stored column and keep one element of each"
+-- section 6.3, steps 6 to 8: undo P2, multiply pairs by the stored column and keep one element of each
 unfoldable pub kept : Set → Private → List ℕ → ℕ → ℕ
 kept s κ y j =
     let F = field_of s in
@@ -23,13 +23,13 @@ kept s κ y j =
     let at : ℕ → ℕ = λ i. get_or y (get_or κ.q2 i 0) 0 in
     pick (ltb j d) (at j) (mul F (at (d + 2 * (j - d))) (get_or κ.columns (2 * (j - d)) 0) ⊕ mul F (at (d + 2 * (j - d) + 1)) (get_or κ.columns (2 * (j - d) + 1) 0))
 
--- 6.3, 9 and 10: "undo P1, multiply by the stored inverses"
+-- section 6.3, steps 9 and 10: undo P1, multiply by the stored inverses
 unfoldable pub undone : Set → Private → List ℕ → List ℕ
 undone s κ y = tab s.n (λ j. mul (field_of s) (get_or κ.inverses j 0) (kept s κ y (get_or κ.q1 j 0)))
 
 -- ---- from the code word to the vector
 
--- 6.3, 14 and 15: the code word times the multipliers, in the order that P1 made: cB4A
+-- section 6.3, steps 14 and 15: the code word times the multipliers, in the order that P1 made: cB4A
 unfoldable pub redone : Set → Private → List ℕ → ℕ → ℕ
 redone s κ c j =
     let F = field_of s in
@@ -43,15 +43,15 @@ placed κ j = get_or (inverse_of κ.q2) j 0
 unfoldable pub unmixed : Set → Private → ℕ → Bool
 unmixed s κ j = ltb (placed κ j) (s.n - s.w)
 
--- "I: the places below k with P2 value at least n-w"; u of them
+-- I: the places below k with P2 value at least n-w; u of them
 unfoldable pub places_i : Set → Private → List ℕ
 places_i s κ = passing (λ j. not (unmixed s κ j)) 0 s.k
 
--- "T: the first u places from k up with P2 value below n-w"
+-- T: the first u places from k up with P2 value below n-w
 unfoldable pub places_t : Set → Private → List ℕ
 places_t s κ = take (length (places_i s κ)) (passing (unmixed s κ) s.k (s.n + s.w - s.k))
 
--- "W = GE's rows I at columns T - k"
+-- W = GE's rows I at columns T - k
 unfoldable pub W : Set → Private → ℕ → ℕ → ℕ
 W s κ a b =
     get_or κ.ge (get_or (places_i s κ) a 0 * (s.n + s.w - s.k) + (get_or (places_t s κ) b 0 - s.k)) 0
@@ -65,7 +65,7 @@ pub record Singular (s : Set) (κ : Private) : Type 0 where
   pub nonzero : get_or y place 0 ≢ 0
   pub zero : (b : ℕ) → b < length (places_i s κ) → combined (field_of s) y (length (places_i s κ)) (λ a. W s κ a b) ≡ 0
 
--- the vector x goes with the code word c: "read back" at the unmixed places below k, and solved for the others by the places T
+-- the vector x goes with the code word c: read back at the unmixed places below k, and solved for the others by the places T
 pub record Vector (s : Set) (κ : Private) (c x : List ℕ) : Type 0 where
   pub long : length x ≡ s.k
   pub small : (i : ℕ) → get_or x i 0 < size (field_of s)
@@ -90,17 +90,17 @@ repadded s κ x y = packed s.m (x ++ differences s κ x y (error_places s κ x y
 
 -- the ciphertext opens to the message under the well-formed key
 pub record Opens (s : Set) (key cipher msg : List ℕ) : Type 0 where
-  -- "Ciphertext spare bits must be zero"
+  -- Ciphertext spare bits must be zero
   pub spare : tail_zero s.m cipher ≡ true
-  -- "find the code word within t places"
+  -- find the code word within t places
   pub code : List ℕ
   pub word : CodeWord (field_of s) s.n (s.n - s.k) code
   pub near : apart s.n (undone s (read s key) (elements s.m cipher)) code ≤ s.t
-  -- "read back", "Solve for the I part"
+  -- read back, Solve for the I part
   pub x : List ℕ
   pub vector : Vector s (read s key) code x
-  -- "Then recompute the word: it must differ from the ciphertext in exactly t places"
+  -- Then recompute the word: it must differ from the ciphertext in exactly t places
   pub exactly : length (error_places s (read s key) x (elements s.m cipher)) ≡ s.t
-  -- "Unpad, compare the k2 check bytes"
+  -- Unpad, compare the k2 check bytes
   pub checks : Checks s (repadded s (read s key) x (elements s.m cipher)) (bytes16 (error_places s (read s key) x (elements s.m cipher)))
   pub message : msg ≡ message_of s (repadded s (read s key) x (elements s.m cipher)) (bytes16 (error_places s (read s key) x (elements s.m cipher)))

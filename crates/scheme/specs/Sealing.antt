@@ -1,4 +1,4 @@
--- 01, Padding, sealing, opening; 001, 6.2: the ciphertext of a message, a pad seed and t places, and the first random block that fits.
+-- Sealing (RLCE-KEM specification of September 14, 2017, section 6.2): the ciphertext of a message, a pad seed and t places, and the first random block that fits.
 use Rattle.std.specs.Prelude.{List, [], ◌∷◌, ◌++◌, Bool, not, ℕ, zero, suc, ◌+◌, ◌-◌, ◌*◌, ◌/◌, eqb, ltb, length, get_or, take, drop, replicate}
 use Rattle.lists.specs.Loops.{pick, tab, first}
 use Rattle.lists.specs.Parts.{part}
@@ -36,7 +36,7 @@ sent s ge x places values = tab (s.n + s.w) (λ j. encoded s ge x j ⊕ error_at
 
 -- ---- the ciphertext of a triple
 
--- "The places string is the t places, rising, two bytes each. The padded string gives k + t elements: the message vector, then the error values"
+-- The places string is the t places, rising, two bytes each. The padded string gives k + t elements: the message vector, then the error values
 unfoldable pub triple_elements : Set → List ℕ → List ℕ → List ℕ → List ℕ
 triple_elements s msg seed places = elements s.m (padded s msg seed (bytes16 places))
 
@@ -50,7 +50,7 @@ ciphertext s ge msg seed places =
 
 -- ---- random blocks
 
--- "pad seed from k3 bytes, t places from the first t entries of a shuffle of n+w"; the places rising
+-- pad seed from k3 bytes, t places from the first t entries of a shuffle of n+w; the places rising
 abbrev pub block_seed : Set → List ℕ → List ℕ
 block_seed s block = take s.k3 block
 
@@ -61,7 +61,7 @@ block_places s block = passing (has (take s.t (shuffled (drop s.k3 block) (s.n +
 abbrev pub block_at : Set → List ℕ → ℕ → List ℕ
 block_at s random b = part (s.block * b) s.block random
 
--- "A block with any zero error value is passed over"
+-- A block with any zero error value is passed over
 unfoldable pub fits : Set → List ℕ → List ℕ → Bool
 fits s msg block = not (has (error_values s msg (block_seed s block) (block_places s block)) 0)
 
@@ -75,6 +75,6 @@ sealed_by s key msg random b =
     let block = block_at s random b in
     ciphertext s (public_ge s key) msg (block_seed s block) (block_places s block)
 
--- 6.4: the secret, then zero bytes up to k1
+-- section 6.4: the secret, then zero bytes up to k1
 unfoldable pub secret_message : Set → List ℕ → List ℕ
 secret_message s secret = secret ++ replicate (s.k1 - length secret) 0

@@ -1,4 +1,4 @@
--- 01, What the wrapping covers: the table of sets, with the lengths of "Lengths that must match" in the last three columns.
+-- The table of sets. The last columns are the lengths of what is lent.
 use Rattle.std.specs.Prelude.{ℕ, eqb, Option, Some, None}
 use Rattle.lists.specs.Loops.{pick}
 use Rattle.sets.specs.declared.Set.{Set}

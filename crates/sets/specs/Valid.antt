@@ -3,7 +3,7 @@ use Rattle.std.specs.Prelude.{◌≡◌, ℕ, ◌+◌, ◌-◌, ◌*◌, ◌^◌
 use Rattle.bits.specs.Bits.{bytes_for}
 use Rattle.sets.specs.declared.Set.{Set}
 
--- 01, Key setup: the elements that setup draws from its random bytes
+-- the elements that setup draws from its random bytes
 abbrev pub setup_elements : Set → ℕ
 setup_elements s = s.n + (4 + s.k) * s.w + 25
 
