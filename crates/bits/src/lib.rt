@@ -1,6 +1,6 @@
-// Bytes as a string of bits: elements of m bits read from it and written to it at any bit place, and 16-bit numbers.
-//
-// `pack_call` and `unpack_call` take any input. The functions they stand on, which the layers above use, say what they require.
+//! Bytes as a string of bits: elements of m bits read from it and written to it at any bit place, and 16-bit numbers.
+//!
+//! `pack_call` and `unpack_call` take any input. The functions they stand on, which the layers above use, say what they require.
 #![tactic(auto)]
 
 mod numbers;
@@ -16,7 +16,7 @@ pub use numbers::{get_numbers, number_at, put_number, put_numbers};
 pub use reading::{bits_at, tail_zero, unpack, unpack_at};
 pub use writing::{pack, small};
 
-// How many whole elements some bytes hold; 8 times the number of bytes need not fit a usize.
+/// How many whole elements some bytes hold; 8 times the number of bytes need not fit a usize.
 #[tactic(auto, using(crate::proofs::Windows::elements_counted))]
 fn element_count(m: usize, bytes: usize) -> usize
     requires wide { 8 ≤ m }
@@ -27,7 +27,7 @@ fn element_count(m: usize, bytes: usize) -> usize
     8 * (bytes / m) + 8 * (bytes % m) / m
 }
 
-// How many bytes some elements take; m times the number of elements need not fit either.
+/// How many bytes some elements take; m times the number of elements need not fit either.
 #[tactic(auto, using(crate::proofs::Windows::bytes_counted))]
 fn byte_count(m: usize, elements: usize) -> usize
     requires narrow { m ≤ 16 }
@@ -37,7 +37,7 @@ fn byte_count(m: usize, elements: usize) -> usize
     m * (elements / 8) + (m * (elements % 8) + 7) / 8
 }
 
-// Bytes to elements of m bits. Refused, with nothing written: m is not from 8 to 16, or `out` is not as long as the elements are many.
+/// Bytes to elements of m bits. Refused, with nothing written: m is not from 8 to 16, or `out` is not as long as the elements are many.
 pub fn unpack_call(m: usize, bytes: &[u8], out: &mut [u16]) -> Result<(), Refused>
     ensures { Unpacked m bytes.now out.old result out.new }
 {
@@ -48,8 +48,8 @@ pub fn unpack_call(m: usize, bytes: &[u8], out: &mut [u16]) -> Result<(), Refuse
     Ok(())
 }
 
-// Elements of m bits to bytes. Refused, with nothing written: m is not from 8 to 16, `out` has not the length that the elements take, or
-// an element is 2 to the m or more.
+/// Elements of m bits to bytes. Refused, with nothing written: m is not from 8 to 16, `out` has not the length that the elements take, or
+/// an element is 2 to the m or more.
 pub fn pack_call(m: usize, elements: &[u16], out: &mut [u8]) -> Result<(), Refused>
     ensures { Packed m elements.now out.old result out.new }
 {

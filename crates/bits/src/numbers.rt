@@ -1,8 +1,8 @@
-// 16-bit numbers in a byte string, the high byte first.
+//! 16-bit numbers in a byte string, the high byte first.
 ghost use Rattle.std.specs.Prelude.{◌≡◌, ◌+◌, ◌*◌, ◌/◌, ◌%◌, ◌<◌, ◌^◌, length, set};
 ghost use Rattle.bits.specs.Numbers.{number16, numbers16, bytes16};
 
-// Number i.
+/// Number i.
 pub fn number_at(s: &[u8], i: usize) -> usize
     requires { 2 * i + 1 < length s.now }
     ensures number { result ≡ number16 s.now i }
@@ -11,7 +11,7 @@ pub fn number_at(s: &[u8], i: usize) -> usize
     usize::from(u16::from_be_bytes([s[2 * i], s[2 * i + 1]]))
 }
 
-// Number i becomes x.
+/// Number i becomes x.
 pub fn put_number(s: &mut [u8], i: usize, x: u16)
     requires { 2 * i + 1 < length s.old }
     ensures { s.new ≡ set (set s.old (2 * i) (x / 256 % 256)) (2 * i + 1) (x % 256) }
@@ -21,7 +21,7 @@ pub fn put_number(s: &mut [u8], i: usize, x: u16)
     s[2 * i + 1] = bytes[1];
 }
 
-// All numbers of a byte string.
+/// All numbers of a byte string.
 #[tactic(auto, using(lists::proofs::Tables::tab_of), unfolding(crate::specs::Numbers::numbers16))]
 pub fn get_numbers(s: &[u8], out: &mut [u16])
     requires { length out.old ≡ length s.now / 2 }
@@ -32,7 +32,7 @@ pub fn get_numbers(s: &[u8], out: &mut [u16])
     }
 }
 
-// All numbers of a list as bytes.
+/// All numbers of a list as bytes.
 #[tactic(auto, using(crate::proofs::Sixteen::bytes16_of))]
 pub fn put_numbers(s: &[u16], out: &mut [u8])
     requires { length out.old ≡ 2 * length s.now }

@@ -1,9 +1,9 @@
-// Reading the bits of a byte string at any place.
+//! Reading the bits of a byte string at any place.
 ghost use Rattle.std.specs.Prelude.{◌≡◌, ℕ, ◌+◌, ◌*◌, ◌/◌, ◌%◌, ◌<◌, ◌≤◌, ◌^◌, length, get_or};
 ghost use Rattle.bits.specs.Bits.{bits_at, elements_at, elements, elements_in, tail_zero};
 ghost use Rattle.bits.specs.Steps.{Begun};
 
-// The byte at i, and 0 past the end.
+/// The byte at i, and 0 past the end.
 fn byte_at(s: &[u8], i: usize) -> u32
     ensures value { result ≡ get_or s.now i 0 }
     ensures small { result < 256 }
@@ -11,7 +11,7 @@ fn byte_at(s: &[u8], i: usize) -> u32
     u32::from(s.get(i).copied().unwrap_or(0))
 }
 
-// The three bytes at q as one number.
+/// The three bytes at q as one number.
 fn three_at(s: &[u8], q: usize) -> u32
     requires { q < 2 ^ 63 }
     ensures { result ≡ (get_or s.now q 0 * 256 + get_or s.now (q + 1) 0) * 256 + get_or s.now (q + 2) 0 }
@@ -23,7 +23,7 @@ fn three_at(s: &[u8], q: usize) -> u32
     (a * 256 + b) * 256 + c
 }
 
-// m bits of v, with t bits below them.
+/// m bits of v, with t bits below them.
 #[tactic(auto, using(crate::proofs::Windows::one_shl))]
 pub fn cut(v: u32, t: usize, m: usize) -> u16
     requires shift { t < 32 }
@@ -34,7 +34,7 @@ pub fn cut(v: u32, t: usize, m: usize) -> u16
     ((v >> t) % (1 << m)) as u16
 }
 
-// m bits after the first r bits of byte q; at most three bytes hold them. Past the end stand zeros.
+/// m bits after the first r bits of byte q; at most three bytes hold them. Past the end stand zeros.
 #[tactic(auto, using(crate::proofs::Windows::three_bits))]
 fn bits_in(s: &[u8], m: usize, q: usize, r: usize) -> u16
     requires narrow { m ≤ 16 }
@@ -46,15 +46,16 @@ fn bits_in(s: &[u8], m: usize, q: usize, r: usize) -> u16
     cut(three_at(s, q), 24 - r - m, m)
 }
 
-// m bits at a bit place: the next element of a key that is read element after element.
+/// m bits at a bit place: the next element of a key that is read element after element.
 pub fn bits_at(s: &[u8], m: usize, place: usize) -> u16
     requires { m ≤ 16 }
-    ensures { (result ≡ bits_at m s.now place) × (result < 2 ^ m) }
+    ensures bits { result ≡ bits_at m s.now place }
+    ensures small { result < 2 ^ m }
 {
     bits_in(s, m, place / 8, place % 8)
 }
 
-// Ten bits after the first r bits of byte q, in two bytes.
+/// Ten bits after the first r bits of byte q, in two bytes.
 #[tactic(auto, using(crate::proofs::Windows::pair_bits))]
 fn ten_in(s: &[u8], q: usize, r: usize) -> u16
     requires inside { q + 1 < length s.now }
@@ -65,7 +66,7 @@ fn ten_in(s: &[u8], q: usize, r: usize) -> u16
     cut(u32::from(pair), 6 - r, 10)
 }
 
-// The four elements of ten bits in the five bytes at q come to the places from i on.
+/// The four elements of ten bits in the five bytes at q come to the places from i on.
 fn four_at(s: &[u8], q: usize, out: &mut [u16], i: usize)
     requires bytes { q + 4 < length s.now }
     requires places { i + 3 < length out.old }
@@ -81,7 +82,7 @@ fn four_at(s: &[u8], q: usize, out: &mut [u16], i: usize)
     out[i + 3] = ten_in(s, q + 3, 6);
 }
 
-// Elements of ten bits from byte q on, four at a time. Answers how many.
+/// Elements of ten bits from byte q on, four at a time. Answers how many.
 #[tactic(auto, using(crate::proofs::Unpacking::begun_none, crate::proofs::Unpacking::begun_four))]
 fn fours_at(s: &[u8], q: usize, out: &mut [u16]) -> usize
     requires { 8 * q + 10 * length out.old ≤ 8 * length s.now }
@@ -94,7 +95,7 @@ fn fours_at(s: &[u8], q: usize, out: &mut [u16]) -> usize
     4 * fours
 }
 
-// The elements that can be taken four at a time: those of ten bits, from a whole byte on. Answers how many.
+/// The elements that can be taken four at a time: those of ten bits, from a whole byte on. Answers how many.
 #[tactic(auto, using(crate::proofs::Unpacking::begun_none, crate::proofs::Unpacking::begun_byte, crate::proofs::Unpacking::byte_room))]
 fn begin(s: &[u8], m: usize, place: usize, out: &mut [u16]) -> usize
     requires { place + m * length out.old ≤ 8 * length s.now }
@@ -106,11 +107,12 @@ fn begin(s: &[u8], m: usize, place: usize, out: &mut [u16]) -> usize
     fours_at(s, place / 8, out)
 }
 
-// Elements from a bit place on, as many as `out` takes. The place is kept as a byte and a bit in it, since 8 times a length need not fit
-// a usize.
+/// Elements from a bit place on, as many as `out` takes. The place is kept as a byte and a bit in it, since 8 times a length need not fit
+/// a usize.
 #[tactic(auto, using(crate::proofs::Packing::elements_at_of))]
 pub fn unpack_at(s: &[u8], m: usize, place: usize, out: &mut [u16])
-    requires { (m ≤ 16) × (place + m * length out.old ≤ 8 * length s.now) }
+    requires narrow { m ≤ 16 }
+    requires inside { place + m * length out.old ≤ 8 * length s.now }
     ensures { out.new ≡ elements_at (length out.old) m s.now place }
 {
     let begun = begin(s, m, place, out);
@@ -123,19 +125,21 @@ pub fn unpack_at(s: &[u8], m: usize, place: usize, out: &mut [u16])
     }
 }
 
-// All whole elements.
+/// All whole elements.
 #[tactic(auto, using(crate::proofs::Packing::all_elements))]
 pub fn unpack(s: &[u8], m: usize, out: &mut [u16])
-    requires { (m ≤ 16) × (length out.old ≡ elements_in m (length s.now)) }
+    requires narrow { m ≤ 16 }
+    requires length { length out.old ≡ elements_in m (length s.now) }
     ensures { out.new ≡ elements m s.now }
 {
     unpack_at(s, m, 0, out);
 }
 
-// Whether the bits after the last whole element are zero.
+/// Whether the bits after the last whole element are zero.
 #[tactic(auto, using(crate::proofs::Windows::tail_is))]
 pub fn tail_zero(s: &[u8], m: usize) -> bool
-    requires { (0 < m) × (m ≤ 16) }
+    requires some { 0 < m }
+    requires narrow { m ≤ 16 }
     ensures { result ≡ tail_zero m s.now }
 {
     let t = 8 * (s.len() % m) % m;

@@ -1,18 +1,18 @@
-// Writing elements as bytes.
+//! Writing elements as bytes.
 ghost use Rattle.std.specs.Prelude.{◌≡◌, ◌+◌, ◌*◌, ◌<◌, ◌≤◌, ◌^◌, length, get_or, drop};
 ghost use Rattle.bits.specs.Bits.{bits, value, packed, bytes_for, Small, Decided};
 ghost use Rattle.bits.specs.Steps.{Below};
 
 use super::reading::cut;
 
-// The element at i, and 0 past the end.
+/// The element at i, and 0 past the end.
 fn word_at(s: &[u16], i: usize) -> u32
     ensures { result ≡ get_or s.now i 0 }
 {
     u32::from(s.get(i).copied().unwrap_or(0))
 }
 
-// The two elements at q as one number.
+/// The two elements at q as one number.
 fn two_at(s: &[u16], m: usize, q: usize) -> u32
     requires narrow { m ≤ 16 }
     requires near { q < 2 ^ 63 }
@@ -22,7 +22,7 @@ fn two_at(s: &[u16], m: usize, q: usize) -> u32
     (word_at(s, q) << m) + word_at(s, q + 1)
 }
 
-// A bit within an element.
+/// A bit within an element.
 #[derive(Clone, Copy)]
 struct Place {
     element: usize,
@@ -30,7 +30,7 @@ struct Place {
 }
 
 impl Place {
-    // The place eight bits on.
+    /// The place eight bits on.
     fn byte_on(self, m: usize) -> Place
         requires wide { 8 ≤ m }
         requires narrow { m ≤ 16 }
@@ -53,7 +53,7 @@ impl Place {
         }
     }
 
-    // The eight bits from here on; at most two elements hold them.
+    /// The eight bits from here on; at most two elements hold them.
     #[tactic(auto, using(crate::proofs::Windows::two_bits))]
     fn byte(self, s: &[u16], m: usize) -> u8
         requires wide { 8 ≤ m }
@@ -67,10 +67,13 @@ impl Place {
     }
 }
 
-// All elements to bytes.
+/// All elements to bytes.
 #[tactic(auto, using(crate::proofs::Packing::packed_of))]
 pub fn pack(s: &[u16], m: usize, out: &mut [u8])
-    requires { (8 ≤ m) × (m ≤ 16) × Small m s.now × (length out.old ≡ bytes_for m (length s.now)) }
+    requires wide { 8 ≤ m }
+    requires narrow { m ≤ 16 }
+    requires small { Small m s.now }
+    requires length { length out.old ≡ bytes_for m (length s.now) }
     ensures { out.new ≡ packed m s.now }
 {
     let mut place = Place { element: 0, bit: 0 };
@@ -80,7 +83,7 @@ pub fn pack(s: &[u16], m: usize, out: &mut [u8])
     }
 }
 
-// Whether each element is below the limit.
+/// Whether each element is below the limit.
 fn below(s: &[u16], limit: u32) -> bool
     ensures { Decided result (Below limit s.now) }
 {
@@ -92,7 +95,7 @@ fn below(s: &[u16], limit: u32) -> bool
     true
 }
 
-// Whether each element is below 2 to the m.
+/// Whether each element is below 2 to the m.
 #[tactic(auto, using(crate::proofs::Windows::small_decided, crate::proofs::Windows::one_shl))]
 pub fn small(s: &[u16], m: usize) -> bool
     requires { m ≤ 16 }

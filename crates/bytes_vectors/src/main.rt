@@ -1,25 +1,25 @@
-// Packing, shuffling and inverting on the cases of standard input, one line of output each.
-//
-// A case is eight bytes (a kind, a width m, the input's length and the output's length, three bytes each) and the input. Its line
-// holds the kind, the answer's number and the output; of an output of more than a hundred entries, its `mix`.
+//! Packing, shuffling and inverting on the cases of standard input, one line of output each.
+//!
+//! A case is eight bytes (a kind, a width m, the input's length and the output's length, three bytes each) and the input. Its line
+//! holds the kind, the answer's number and the output; of an output of more than a hundred entries, its `mix`.
 #![tactic(auto)]
 
 ghost use Rattle.std.specs.Prelude.{◌≡◌, ◌/◌, length};
 
 use lists::Refused;
 
-// The number of standard input.
+/// The number of standard input.
 const STDIN: i32 = 0;
 
-// The number of standard output.
+/// The number of standard output.
 const STDOUT: i32 = 1;
 
-// How long the input of a case may be, and its output.
+/// How long the input of a case may be, and its output.
 const INPUT: usize = 65536;
 
 const OUTPUT: usize = 65538;
 
-// What a case does with its input.
+/// What a case does with its input.
 #[derive(Clone, Copy)]
 enum Kind {
     Unpack = 0,
@@ -64,7 +64,7 @@ fn end() {
     io::write_all(STDOUT, b"\n");
 }
 
-// The entries as one number in base 31, its last 32 bits.
+/// The entries as one number in base 31, its last 32 bits.
 fn mix(s: &[u16]) -> u32 {
     s.iter().fold(
         0u32,
@@ -131,12 +131,12 @@ fn both_case(input: &[u8], list: &mut [u16], out: &mut [u16]) {
     end();
 }
 
-// The number of three bytes.
+/// The number of three bytes.
 fn three(a: u8, b: u8, c: u8) -> usize {
     u32::from_be_bytes([0, a, b, c]) as usize
 }
 
-// The head of the next case, if there is one.
+/// The head of the next case, if there is one.
 fn next_case() -> Option<Case> {
     let mut head = [0u8; 8];
     if io::read_full(STDIN, &mut head) < head.len() {
@@ -151,7 +151,7 @@ fn next_case() -> Option<Case> {
     })
 }
 
-// Reads the input of a case and runs it; false where a length is too large or the input ends before.
+/// Reads the input of a case and runs it; false where a length is too large or the input ends before.
 fn run(
     case: Case,
     input: &mut [u8; INPUT],

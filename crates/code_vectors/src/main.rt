@@ -1,27 +1,27 @@
-// Decodes words that are some places away from a code word, and prints what comes out: a line for each, with the code's
-// n and t, the number of places struck, and the word, or that none is near.
+//! Decodes words that are some places away from a code word, and prints what comes out: a line for each, with the code's
+//! n and t, the number of places struck, and the word, or that none is near.
 #![tactic(auto)]
 
 ghost use Rattle.std.specs.Prelude.{◌≡◌, ℕ, ◌+◌, ◌≤◌, ◌<◌, length, get_or};
 
 use decoder::decoded;
 
-// The number of standard output.
+/// The number of standard output.
 const STDOUT: i32 = 1;
 
-// The next of a run of numbers that look random.
+/// The next of a run of numbers that look random.
 fn next(x: u32) -> u32
     ensures { result < 65537 }
 {
     ((x % 65537) * 75 + 74) % 65537
 }
 
-// A field element from such a number.
+/// A field element from such a number.
 fn element(x: u32) -> u16 {
     (x % 1024) as u16
 }
 
-// One of n places from such a number.
+/// One of n places from such a number.
 fn place(x: u32, n: usize) -> usize
     requires { 0 < n }
     ensures { result < n }
@@ -29,7 +29,7 @@ fn place(x: u32, n: usize) -> usize
     (x as usize) % n
 }
 
-// A code word comes to the front of the area: the sum of multiples of the generator's shifts.
+/// A code word comes to the front of the area: the sum of multiples of the generator's shifts.
 fn code_word(area: &mut [u16], n: usize, s: usize, seed: u32) -> u32
     requires room { n + (s + 1) ≤ length area.old }
     requires short { s < n }
@@ -45,14 +45,14 @@ fn code_word(area: &mut [u16], n: usize, s: usize, seed: u32) -> u32
     x
 }
 
-// Strikes one place.
+/// Strikes one place.
 fn strike(area: &mut [u16], p: usize, v: u16)
     requires { p < length area.old }
 {
     area[p] ^= v;
 }
 
-// Strikes e places of the n at the front, the same one twice perhaps.
+/// Strikes e places of the n at the front, the same one twice perhaps.
 fn spoil(area: &mut [u16], n: usize, e: usize, seed: u32)
     requires some { 0 < n }
     requires room { n ≤ length area.old }
@@ -66,7 +66,7 @@ fn spoil(area: &mut [u16], n: usize, e: usize, seed: u32)
     }
 }
 
-// The numbers of a word, a blank before each.
+/// The numbers of a word, a blank before each.
 fn print_word(word: &[u16]) {
     for &x in word {
         io::write_all(STDOUT, b" ");
@@ -79,7 +79,7 @@ fn print_number(x: usize) {
     io::write_all(STDOUT, b" ");
 }
 
-// One case: a code word, e places struck, decoded and printed.
+/// One case: a code word, e places struck, decoded and printed.
 fn case(area: &mut [u16], work: &mut [u16], n: usize, t: usize, e: usize)
     requires room { n + (t + t + 1) ≤ length area.old }
     requires short { t + t < n }
@@ -99,7 +99,7 @@ fn case(area: &mut [u16], work: &mut [u16], n: usize, t: usize, e: usize)
     io::write_all(STDOUT, b"\n");
 }
 
-// All cases of a code: from no place struck to `most`.
+/// All cases of a code: from no place struck to `most`.
 fn cases(area: &mut [u16], work: &mut [u16], n: usize, t: usize, most: usize)
     requires room { n + (t + t + 1) ≤ length area.old }
     requires short { t + t < n }
@@ -109,7 +109,7 @@ fn cases(area: &mut [u16], work: &mut [u16], n: usize, t: usize, most: usize)
     }
 }
 
-// The three codes, in lent slices.
+/// The three codes, in lent slices.
 fn run(area: &mut [u16], work: &mut [u16])
     requires { length area.old ≡ 128 }
 {

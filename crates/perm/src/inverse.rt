@@ -1,11 +1,11 @@
-// The inverse of a permutation, and the test whether a list is one.
+//! The inverse of a permutation, and the test whether a list is one.
 ghost use Rattle.std.specs.Prelude.{◌≡◌, ◌<◌, ◌≤◌, length};
 ghost use Rattle.bits.specs.Bits.{Decided};
 ghost use Rattle.perm.specs.Perm.{Places, Perm, Undoes, Inverts, inverted};
 
 use super::window::{WINDOW, once_in};
 
-// Whether each entry is below the length.
+/// Whether each entry is below the length.
 fn places(p: &[u16]) -> bool
     ensures { Decided result (Places p.now) }
 {
@@ -17,7 +17,7 @@ fn places(p: &[u16]) -> bool
     true
 }
 
-// q[p[i]] = i for each place i.
+/// q[p[i]] = i for each place i.
 #[tactic(auto, using(lists::proofs::Loops::turning), unfolding(crate::specs::Perm::inverted))]
 pub fn write(p: &[u16], q: &mut [u16])
     requires long { length q.old ≡ length p.now }
@@ -30,7 +30,7 @@ pub fn write(p: &[u16], q: &mut [u16])
     }
 }
 
-// Whether q[p[i]] is i for each place i.
+/// Whether q[p[i]] is i for each place i.
 fn undoes(p: &[u16], q: &[u16]) -> bool
     requires long { length q.now ≡ length p.now }
     requires low { Places p.now }
@@ -44,7 +44,7 @@ fn undoes(p: &[u16], q: &[u16]) -> bool
     true
 }
 
-// The inverse of p is written to q, and true is answered; false where p is no permutation, when q holds anything.
+/// The inverse of p is written to q, and true is answered; false where p is no permutation, when q holds anything.
 #[tactic(auto, using(crate::proofs::Inverting::inverts))]
 pub fn invert(p: &[u16], q: &mut [u16]) -> bool
     requires { length q.old ≡ length p.now }
@@ -57,7 +57,7 @@ pub fn invert(p: &[u16], q: &mut [u16]) -> bool
     undoes(p, q)
 }
 
-// Whether p is a permutation: its entries are places, and in no window does one stand twice.
+/// Whether p is a permutation: its entries are places, and in no window does one stand twice.
 pub fn is_permutation(p: &[u16]) -> bool
     ensures { Decided result (Perm p.now) }
 {

@@ -1,6 +1,6 @@
-// Permutations of places: the shuffle of the RLCE-KEM specification of September 14, 2017, section 7.8, and the inverse of a permutation.
-//
-// `shuffle_call` and `invert_call` take any input. The functions they stand on, which the layers above use, say what they require.
+//! Permutations of places: the shuffle of the RLCE-KEM specification of September 14, 2017, section 7.8, and the inverse of a permutation.
+//!
+//! `shuffle_call` and `invert_call` take any input. The functions they stand on, which the layers above use, say what they require.
 #![tactic(auto)]
 
 mod inverse;
@@ -13,8 +13,8 @@ pub use inverse::{invert, is_permutation};
 use lists::Refused;
 pub use swaps::shuffle;
 
-// Shuffles 0, 1, .. by the 16-bit numbers in the bytes. Refused, with nothing written: the list's length u is not from 1 to 65536, the
-// bytes are odd in number, or they hold more than u - 1 numbers.
+/// Shuffles 0, 1, .. by the 16-bit numbers in the bytes. Refused, with nothing written: the list's length u is not from 1 to 65536, the
+/// bytes are odd in number, or they hold more than u - 1 numbers.
 pub fn shuffle_call(bytes: &[u8], list: &mut [u16]) -> Result<(), Refused>
     ensures { Shuffled bytes.now list.old result list.new }
 {
@@ -26,7 +26,7 @@ pub fn shuffle_call(bytes: &[u8], list: &mut [u16]) -> Result<(), Refused>
     Ok(())
 }
 
-// The inverse of a permutation. Refused, with nothing written: the list is none, or the inverse is not as long.
+/// The inverse of a permutation. Refused, with nothing written: the list is none, or the inverse is not as long.
 #[tactic(auto, using(crate::proofs::Inverting::inverting))]
 pub fn invert_call(list: &[u16], inverse: &mut [u16]) -> Result<(), Refused>
     ensures { Inverted list.now inverse.old result inverse.new }

@@ -1,8 +1,8 @@
-// The shuffle: swaps that 16-bit numbers choose.
+//! The shuffle: swaps that 16-bit numbers choose.
 ghost use Rattle.std.specs.Prelude.{◌≡◌, ◌/◌, ◌<◌, ◌≤◌, length};
 ghost use Rattle.perm.specs.Shuffle.{identity, swapped, shuffled};
 
-// 0, 1, ..
+/// 0, 1, ..
 #[tactic(auto, using(lists::proofs::Tables::tab_of), unfolding(crate::specs::Shuffle::identity))]
 fn count_up(p: &mut [u16])
     requires { length p.old ≤ 65536 }
@@ -13,8 +13,8 @@ fn count_up(p: &mut [u16])
     }
 }
 
-// Entries i and j are swapped. Kept by hand: the slice's `swap` jumps where i is j, which depends on secrets, and a shuffle by it takes a
-// fifth longer.
+/// Entries i and j are swapped. Kept by hand: the slice's `swap` jumps where i is j, which depends on secrets, and a shuffle by it takes a
+/// fifth longer.
 #[tactic(auto, unfolding(crate::specs::Shuffle::swapped))]
 fn swap(p: &mut [u16], i: usize, j: usize)
     requires i_within { i < length p.old }
@@ -26,7 +26,7 @@ fn swap(p: &mut [u16], i: usize, j: usize)
     p[j] = entry;
 }
 
-// The list becomes 0, 1, .. shuffled by all 16-bit numbers of the bytes.
+/// The list becomes 0, 1, .. shuffled by all 16-bit numbers of the bytes.
 #[tactic(auto, using(lists::proofs::Loops::turning), unfolding(crate::specs::Shuffle::shuffled))]
 pub fn shuffle(bytes: &[u8], p: &mut [u16])
     requires few { length bytes.now / 2 ≤ length p.old }

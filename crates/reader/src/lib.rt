@@ -1,6 +1,6 @@
-// Keys are read element after element by a reader that remembers its bytes and its bit place.
-//
-// `element` and `elements` have plain parameters and use a reader inside; whoever calls those two sees no reader.
+//! Keys are read element after element by a reader that remembers its bytes and its bit place.
+//!
+//! `element` and `elements` have plain parameters and use a reader inside; whoever calls those two sees no reader.
 #![tactic(auto)]
 
 ghost use Rattle.std.specs.Prelude.{◌≡◌, ◌+◌, ◌*◌, ◌<◌, ◌≤◌, ◌^◌, length};
@@ -14,7 +14,7 @@ pub struct Reader<'a> {
 }
 
 impl<'a> Reader<'a> {
-    // A reader at a bit place.
+    /// A reader at a bit place.
     pub fn at(bytes: &'a [u8], bit: usize) -> Reader<'a>
         ensures bytes { result.bytes ≡ bytes.entry }
         ensures bit { result.bit ≡ bit }
@@ -22,7 +22,7 @@ impl<'a> Reader<'a> {
         Reader { bytes, bit }
     }
 
-    // The next element of m bits.
+    /// The next element of m bits.
     pub fn next(&mut self, m: usize) -> u16
         requires narrow { m ≤ 16 }
         requires near { self.old.bit + m < 2 ^ 64 }
@@ -35,7 +35,7 @@ impl<'a> Reader<'a> {
         value
     }
 
-    // Fills `out` with the next elements of m bits.
+    /// Fills `out` with the next elements of m bits.
     pub fn fill(&mut self, m: usize, out: &mut [u16])
         requires narrow { m ≤ 16 }
         requires inside { self.old.bit + m * length out.old ≤ 8 * length self.old.bytes.now }
@@ -48,7 +48,7 @@ impl<'a> Reader<'a> {
     }
 }
 
-// The element of m bits at a bit place.
+/// The element of m bits at a bit place.
 pub fn element(bytes: &[u8], m: usize, bit: usize) -> u16
     requires narrow { m ≤ 16 }
     requires near { bit + m < 2 ^ 64 }
@@ -58,7 +58,7 @@ pub fn element(bytes: &[u8], m: usize, bit: usize) -> u16
     Reader::at(bytes, bit).next(m)
 }
 
-// Elements from a bit place on, as many as `out` takes; answers the place after them.
+/// Elements from a bit place on, as many as `out` takes; answers the place after them.
 pub fn elements(bytes: &[u8], m: usize, bit: usize, out: &mut [u16]) -> usize
     requires narrow { m ≤ 16 }
     requires inside { bit + m * length out.old ≤ 8 * length bytes.now }

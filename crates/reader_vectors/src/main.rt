@@ -1,10 +1,10 @@
-// The elements of a stored byte string, for each width of 1 to 16 bits: a line of those that are read one after the other, to past
-// the last bit, and a line of nine that are read at once from bit 3 on, with the place after them.
+//! The elements of a stored byte string, for each width of 1 to 16 bits: a line of those that are read one after the other, to past
+//! the last bit, and a line of nine that are read at once from bit 3 on, with the place after them.
 #![tactic(auto)]
 
 ghost use Rattle.std.specs.Prelude.{◌+◌, ◌*◌, ◌<◌, ◌≤◌, ◌^◌, length};
 
-// The number of standard output.
+/// The number of standard output.
 const STDOUT: i32 = 1;
 
 fn word(n: u64) {

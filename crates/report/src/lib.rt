@@ -1,4 +1,4 @@
-// What the program `sizes` does: lines in, a line of numbers or a refusal out.
+//! What the program `sizes` does: lines in, a line of numbers or a refusal out.
 #![tactic(auto)]
 
 ghost use Rattle.std.specs.Prelude.{◌≡◌, option_map, ℕ, ◌<◌, List, [], ◌∷◌, ◌++◌, IfSome};
@@ -10,10 +10,10 @@ use std::fmt;
 use std::fmt::{InlineText, Write};
 use std::io::Read;
 
-// The number of standard output.
+/// The number of standard output.
 const STDOUT: i32 = 1;
 
-// The value of a lower-case hex digit.
+/// The value of a lower-case hex digit.
 fn hex_digit(c: u8) -> Option<u8>
     ensures value { result ≡ hex_digit c }
     ensures small { IfSome result (λ d. d < 16) }
@@ -25,7 +25,7 @@ fn hex_digit(c: u8) -> Option<u8>
     }
 }
 
-// What is kept of a line while it is read.
+/// What is kept of a line while it is read.
 #[derive(Clone, Copy)]
 pub enum Line {
     Empty,
@@ -41,7 +41,7 @@ impl Line {
         Line::Empty
     }
 
-    // The line with one byte more.
+    /// The line with one byte more.
     pub fn with(self, b: u8) -> Line
         ensures { (l : List ℕ) → Keeps self l → Keeps result (l ++ (b ∷ [])) }
     {
@@ -53,7 +53,7 @@ impl Line {
         }
     }
 
-    // The set that the line names.
+    /// The set that the line names.
     pub fn names(self) -> Option<ParameterSet>
         ensures { (l : List ℕ) → Keeps self l → option_map (λ p. p.set) result ≡ set_of_line l }
     {
@@ -64,7 +64,7 @@ impl Line {
     }
 }
 
-// The line that is printed of a set.
+/// The line that is printed of a set.
 #[derive(Clone, Copy)]
 struct Sizes(Set);
 
@@ -84,7 +84,7 @@ impl fmt::Display for Sizes {
     }
 }
 
-// What is written for a line.
+/// What is written for a line.
 fn answer(line: Line) {
     let Some(parameters) = line.names() else {
         io::write_all(STDOUT, b"refused 1\n");
@@ -96,7 +96,7 @@ fn answer(line: Line) {
     io::write_all(STDOUT, text.as_str().as_bytes());
 }
 
-// One byte more of the input: a line feed ends the line.
+/// One byte more of the input: a line feed ends the line.
 fn step(line: Line, b: u8) -> Line {
     if b == b'\n' {
         answer(line);
@@ -113,7 +113,7 @@ fn feed(line: Line, s: &[u8]) -> Line {
     now
 }
 
-// Answers each line of standard input; a last one with no line feed counts if it is not empty.
+/// Answers each line of standard input; a last one with no line feed counts if it is not empty.
 pub fn run(rt: &(impl Input + Eprint)) {
     let mut space = io::large_buffer();
     let mut line = Line::new();

@@ -1,4 +1,4 @@
-// Reads set bytes, a line each, and prints the numbers of each set, or a refusal where a line names none.
+//! Reads set bytes, a line each, and prints the numbers of each set, or a refusal where a line names none.
 #![tactic(auto)]
 
 fn main(rt: HostRuntime) {

@@ -1,4 +1,4 @@
-// `sizes` once more, on lines that are not as they should be.
+//! `sizes` once more, on lines that are not as they should be.
 #![tactic(auto)]
 
 fn main(rt: HostRuntime) {
