@@ -76,10 +76,3 @@ small_all w xs n h f i = go (dec_lt i n)
 pub small_decided : (r : Bool) (m limit : ℕ) (xs : List ℕ) → limit ≡ 2 ^ m → Decided r (Below limit xs) → Decided r (Small m xs)
 small_decided true m limit xs e f = small_all m xs (length xs) (omega arith) (λ k l. rw e at (f k l))
 small_decided false m limit xs e f = λ small. f (λ i l. rw e (small i))
-
--- an answer, yes or no
-pub decided-yes : (r : Bool) (P : Type 0) → Decided r P → r ≡ true → P
-decided-yes r P d e = rw e at d
-
-pub decided-no : (r : Bool) (P : Type 0) → Decided r P → r ≡ false → P → ⊥
-decided-no r P d e = rw e at d

@@ -2,5 +2,4 @@
 pub mod Loops
 pub mod Tables
 pub mod Parts
-pub mod Wiping
 pub mod Writing

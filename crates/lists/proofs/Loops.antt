@@ -12,10 +12,6 @@ module _ {A : Type 0} (step : ℕ → A → A) where
   unfolding turns
   turns-none x = refl
 
-  pub turns-suc : (n : ℕ) (x : A) → turns step (suc n) x ≡ step n (turns step n x)
-  unfolding turns
-  turns-suc n x = refl
-
   pub turns_more : (n : ℕ) (x y : A) → y ≡ turns step n x → step n y ≡ turns step (n + 1) x
   unfolding turns
   turns_more n x y e = rw (add-one n, e)

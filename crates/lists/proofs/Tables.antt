@@ -23,10 +23,6 @@ get_or-tab (suc n) f i h = go (get_or-tab n f i) (dec_lt i n)
     go r (yes l) = get_or-append (tab n f) (f n ∷ []) 0 i (rw length-tab l) ∙ r l
     go r (no g) = let e : i ≡ n = omega arith in rw e (get_or_at (tab n f) (f n) [] 0 n (length-tab n f))
 
-pub tab-suc : (n : ℕ) (f : ℕ → ℕ) → tab (suc n) f ≡ tab n f ++ (f n ∷ [])
-unfolding tab
-tab-suc n f = refl
-
 -- two tables are equal where their entries are
 pub tab-ext : (n : ℕ) (f g : ℕ → ℕ) → ((i : ℕ) → i < n → f i ≡ g i) → tab n f ≡ tab n g
 unfolding tab

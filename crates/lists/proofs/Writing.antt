@@ -13,9 +13,6 @@ use Rattle.lists.proofs.Tables.{length-tab, get_or-tab}
 use Rattle.lists.proofs.Parts.{part_length, put-length}
 
 -- ---- a loop that writes one element a turn
-pub wrote_none : (a : ℕ) (f : ℕ → ℕ) (l : List ℕ) → Wrote a 0 f l l
-wrote_none a f l = record { long = refl; there = λ i h. absurd (omega arith); elsewhere = λ i o. refl }
-
 at-or : {A : Type 0} (i j : ℕ) → (i ≡ j → A) → (i ≢ j → A) → A
 at-or {A} i j f g = go (ℕ_discrete i j)
   where
@@ -33,13 +30,6 @@ wrote-more a i n f l₀ l v w lt fits e =
           (λ d. get_or-set_other l (a + i) (a + j) v 0 (omega arith) ∙ w.there j (omega arith));
       elsewhere = λ j o. get_or-set_other l (a + i) j v 0 (λ q. o (omega arith) (omega arith)) ∙ w.elsewhere j (λ p q. o p (omega arith));
     }
-
-pub wrote-end : (a n i : ℕ) (f : ℕ → ℕ) (l₀ l : List ℕ) → Wrote a i f l₀ l → i ≤ n → n ≤ i → Wrote a n f l₀ l
-wrote-end a n i f l₀ l w h g = let q : i ≡ n = omega arith in rw q at w
-
--- what is written may be said in another way
-pub wrote_as : (a n : ℕ) (f g : ℕ → ℕ) (l l' : List ℕ) → Wrote a n f l l' → ((i : ℕ) → i < n → f i ≡ g i) → Wrote a n g l l'
-wrote_as a n f g l l' w e = record { long = w.long; there = λ i h. w.there i h ∙ e i h; elsewhere = w.elsewhere }
 
 -- ---- parts
 -- two lists have the same part where they have the same elements

@@ -1,7 +1,7 @@
-//! What every layer says of lists and loops, the refusal of the low calls, and the calls that set a lent slice to zero.
+//! What every layer says of lists and loops, and the refusal of the low calls.
 #![tactic(auto)]
 
-ghost use Rattle.std.specs.Prelude.{◌≡◌, length, replicate};
+ghost use Rattle.std.specs.Prelude.{◌≡◌};
 ghost use Rattle.lists.specs.Answers.{number_of};
 
 /// A low call refused its input: packing, shuffling, inverting and hashing. What it was lent is as it was.
@@ -15,27 +15,5 @@ pub fn number(answer: Result<(), Refused>) -> u8
     match answer {
         Ok(()) => 0,
         Err(Refused) => 2,
-    }
-}
-
-/// Every byte becomes zero.
-pub fn wipe_bytes(s: &mut [u8])
-    ensures { s.new ≡ replicate (length s.old) 0 }
-{
-    let mut i = 0;
-    while i < s.len() {
-        s[i] = 0;
-        i += 1;
-    }
-}
-
-/// Every number becomes zero.
-pub fn wipe_numbers(s: &mut [u16])
-    ensures { s.new ≡ replicate (length s.old) 0 }
-{
-    let mut i = 0;
-    while i < s.len() {
-        s[i] = 0;
-        i += 1;
     }
 }

@@ -118,6 +118,7 @@ pub fn run(rt: &(impl Input + Eprint)) {
     let mut space = io::large_buffer();
     let mut line = Line::new();
     let mut input = rt.reader();
+    // Kept as reads into one buffer: lines of a `BufRead` would need memory for a line of any length.
     for _ in 0..u64::MAX {
         match input.read(&mut space) {
             Err(error) => {

@@ -1,9 +1,0 @@
--- The first i bytes are zero and the rest as they were.
-use Rattle.std.proofs.Common.{◌≡◌, ◌++◌, ◌≤◌, ◌-◌, length, replicate, drop}
-use Rattle.lists.proofs.wipe_bytes.Given as goal
-
-abbrev pub invariant-loop-i : goal.invariant-loop-i
-invariant-loop-i l = (l.i ≤ length l.initial.s) × (length l.s ≡ length l.initial.s) × (l.s ≡ replicate l.i 0 ++ drop l.i l.initial.s)
-
-abbrev pub decreases-loop-i : goal.decreases-loop-i
-decreases-loop-i l = length l.initial.s - l.i
