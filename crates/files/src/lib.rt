@@ -48,7 +48,9 @@ fn name<'a>(rt: &impl Env, i: usize, buf: &'a mut [u8]) -> std::io::Result<&'a s
     std::str::from_utf8(&buf[..n]).map_err(|_| Error::from_raw_os_error(NOT_TEXT))
 }
 
-// Reads to the end of the file, or until the slice is full.
+/// Reads to the end of the file, or until the slice is full.
+///
+/// Kept as a loop over `read`: `read_exact` fails at a shorter file, and `read_to_end` and `take` want a `Vec`.
 fn fill(file: &mut impl Read, buf: &mut [u8]) -> std::io::Result<usize>
     ensures { IfOk result (λ n. n ≤ length buf.old) }
 {
