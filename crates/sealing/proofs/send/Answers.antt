@@ -10,10 +10,12 @@ pack-requires c =
     let s = rooms.parameters.set in
     let els = rooms.elements.now in
     let small = c.requires.ready.small in
+    let q =
     pack_ready s rooms.parameters.valid c.args.key.now c.split_at.result.0.now c.encode.new.word c.split_at.ensures.front_len (search rules) c.split_at.ensures.front_len
     (c.encode.auto.word ∙ rooms.word_length) c.encode.ensures _ _ c.add_values.new.word c.add_values.ensures
     c.args.cipher.now c.requires.field_width c.requires.cipher_length
-    (rw c.split_at.ensures.front (take-small s.m s.k els small)) (rw c.split_at.ensures.back (drop-small s.m s.k els small))
+    (rw c.split_at.ensures.front (take-small s.m s.k els small)) (rw c.split_at.ensures.back (drop-small s.m s.k els small)) in
+    record { wide = q.0; narrow = q.1; small = q.2; length = q.3 }
 
 pub returns : goal.returns
 returns c =

@@ -13,7 +13,10 @@ pub unpack-requires : goal.unpack-requires
 unpack-requires c =
     let s = c.args.parameters.set in
     let v = c.args.parameters.valid in
-    (v.wide, c.requires.elements_length ∙ sym (padded-holds v) ∙ ap (elements_in s.m) (sym (c.pad_places.auto.out ∙ c.requires.string_length)))
+    record {
+      narrow = v.wide;
+      length = c.requires.elements_length ∙ sym (padded-holds v) ∙ ap (elements_in s.m) (sym (c.pad_places.auto.out ∙ c.requires.string_length));
+    }
 
 pub returns-clause-drawn : goal.returns-clause-drawn
 returns-clause-drawn c = drawn_elements c.args.parameters.set c.args.msg.now c.args.seed.now _ c.pad_places.ensures c.unpack.ensures
