@@ -1,4 +1,6 @@
-// The way of a message, call after call: what is proved of the calls' promises together is here the contract of code that makes the calls.
+//! The way of a message, call after call: what is proved of the calls' promises together is here the contract of code that makes the calls.
+//!
+//! Kept as a function for each way, sealing and wrapping: one over closures could not say what the calls of both promise of nine buffers.
 #![tactic(auto)]
 
 ghost use Rattle.std.specs.Prelude.{◌≡◌};
@@ -10,6 +12,7 @@ use calls::founding::setup;
 use scheme::Refusal;
 
 /// How far a message came: no pair was made, it was not sealed, or it was opened, each with what the call that ended it answered.
+/// Three ends, so neither an `Option` nor a `Result`.
 #[derive(Clone, Copy, Debug, PartialEq, Eq)]
 pub enum Way {
     NotMade(Refusal),
@@ -63,8 +66,8 @@ fn wrap_then_unwrap(
     }
 }
 
-// Sets up a pair, seals the message and opens what was sealed. The message arrives: where the first two calls are done and the room for it
-// has its length, opening is done, and what it gives is the message.
+/// Sets up a pair, seals the message and opens what was sealed. The message arrives: where the first two calls are done and the room for it
+/// has its length, opening is done, and what it gives is the message.
 pub fn seal_and_open(
     byte: u8,
     first: &[u8],
@@ -87,7 +90,7 @@ pub fn seal_and_open(
     }
 }
 
-// The same of a secret: it is wrapped, and unwrapped to as many bytes.
+/// The same of a secret: it is wrapped, and unwrapped to as many bytes.
 pub fn wrap_and_unwrap(
     byte: u8,
     first: &[u8],

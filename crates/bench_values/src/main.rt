@@ -1,8 +1,8 @@
-// The five calls on stored cases: the bench values that are not proved by computation, every answer number of set 6, round trips, and the
-// order of refusals. A line each: the case, the number that is expected, the answer, what the lent outputs hold afterwards (the start of a
-// digest where they are full), and the work area. scripts/stored-cases makes the cases and the expected output with another implementation.
-//
-// A case is a head of sixteen bytes, its label, and three inputs, some of them empty.
+//! The five calls on stored cases: the bench values that are not proved by computation, every answer number of set 6, round trips, and the
+//! order of refusals. A line each: the case, the number that is expected, the answer, what the lent outputs hold afterwards (the start of a
+//! digest where they are full), and the work area. scripts/stored-cases makes the cases and the expected output with another implementation.
+//!
+//! A case is a head of sixteen bytes, its label, and three inputs, some of them empty.
 #![tactic(auto)]
 
 ghost use Rattle.std.specs.Prelude.{◌≡◌, ◌<◌, length};

@@ -1,6 +1,9 @@
 //! Bytes as a string of bits: elements of m bits read from it and written to it at any bit place, and 16-bit numbers.
 //!
 //! `pack_call` and `unpack_call` take any input. The functions they stand on, which the layers above use, say what they require.
+//!
+//! The width m stays a number with a clause, and no type: it comes from a set or from C at every call, and a type would be made and taken
+//! apart at each.
 #![tactic(auto)]
 
 mod numbers;

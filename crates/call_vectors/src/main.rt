@@ -1,10 +1,10 @@
-// The five calls on the cases of standard input, which the second implementation made: each must answer, write and leave what is
-// stored with it. The last line says how many cases agree.
-//
-// A case is a head of 17 bytes, three inputs, and two outputs as they must be afterwards. The head: the verb (0 setup, 1 seal,
-// 2 open, 3 wrap, 4 unwrap, 5 by seeds), setup's set byte, the answer number, the count, whether the work area is kept (1) or
-// zero (0) afterwards, and six lengths of two bytes: inputs, outputs, work area. Before a call every byte that may be written is
-// 0xA5. scripts/call-vectors makes the cases.
+//! The five calls on the cases of standard input, which the second implementation made: each must answer, write and leave what is
+//! stored with it. The last line says how many cases agree.
+//!
+//! A case is a head of 17 bytes, three inputs, and two outputs as they must be afterwards. The head: the verb (0 setup, 1 seal,
+//! 2 open, 3 wrap, 4 unwrap, 5 by seeds), setup's set byte, the answer number, the count, whether the work area is kept (1) or
+//! zero (0) afterwards, and six lengths of two bytes: inputs, outputs, work area. Before a call every byte that may be written is
+//! 0xA5. scripts/call-vectors makes the cases.
 #![tactic(auto)]
 
 mod seeded;

@@ -1,4 +1,4 @@
-// The whole way in set 1 from three seeds: the masks of the seeds are the random bytes of setup, the message and the random blocks.
+//! The whole way in set 1 from three seeds: the masks of the seeds are the random bytes of setup, the message and the random blocks.
 ghost use Rattle.std.specs.Prelude.{◌≡◌, ◌<◌, ◌≤◌, length, IfOk, IfErr};
 ghost use Rattle.scheme.specs.Answers.{number_of};
 
@@ -118,7 +118,7 @@ fn walk(
     );
 }
 
-// Digests of public key, private key, ciphertext and opened message, and the answers, if the output has room for just these.
+/// Digests of public key, private key, ciphertext and opened message, and the answers, if the output has room for just these.
 pub fn way(x: &[u8], y: &[u8], z: &[u8], out: &mut [u8]) -> Result<usize, Refusal> {
     if out.len() != 261 {
         return Err(Refusal::WrongLength);

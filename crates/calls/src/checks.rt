@@ -1,4 +1,4 @@
-// First checks: the set that a key's first byte names, and the length of a secret.
+//! First checks: the set that a key's first byte names, and the length of a secret.
 ghost use Rattle.std.specs.Prelude.{◌≡◌, ◌&&◌, leb, IfOk, IfErr};
 ghost use Rattle.calls.specs.Given.{OpenServes, NamesSet, NamesNone};
 

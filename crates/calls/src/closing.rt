@@ -1,4 +1,6 @@
-// Sealing a message and wrapping a secret under a public key.
+//! Sealing a message and wrapping a secret under a public key.
+//!
+//! The slices go one by one, as the C interface has them.
 ghost use Rattle.std.specs.Prelude.{◌≡◌, ◌<◌, ◌≤◌, length};
 ghost use Rattle.scheme.specs.Sealing.{secret_message};
 ghost use Rattle.scheme.specs.Calls.{seal_lengths, after_seal, seal_ends, wrap_ends};

@@ -1,4 +1,4 @@
-// Opening a ciphertext and unwrapping a secret with a private key.
+//! Opening a ciphertext and unwrapping a secret with a private key.
 ghost use Rattle.std.specs.Prelude.{◌≡◌, ◌≤◌, length};
 ghost use Rattle.scheme.specs.Opening.{Opens};
 ghost use Rattle.scheme.specs.Calls.{open_lengths, Opening, GivesSecret, OpenEnds, UnwrapEnds};

@@ -1,4 +1,4 @@
-// Setup: a key pair from random bytes.
+//! Setup: a key pair from random bytes.
 ghost use Rattle.std.specs.Prelude.{◌≡◌, ◌<◌, length};
 ghost use Rattle.scheme.specs.Setup.{setup};
 ghost use Rattle.scheme.specs.Calls.{setup_lengths, after_setup, setup_ends};

@@ -1,7 +1,7 @@
-// The five calls for users, for any slices: `founding::setup`, `closing::seal`, `closing::wrap`, `disclosing::open` and `disclosing::unwrap`.
-//
-// Each makes the first checks, does its work, and wipes: the work area always, the outputs on a refusal, and the stack that it used. What each
-// promises is defined in the crate `scheme` (specs/Calls.antt).
+//! The five calls for users, for any slices: `founding::setup`, `closing::seal`, `closing::wrap`, `disclosing::open` and `disclosing::unwrap`.
+//!
+//! Each makes the first checks, does its work, and wipes: the work area always, the outputs on a refusal, and the stack that it used. What each
+//! promises is defined in the crate `scheme` (specs/Calls.antt).
 #![tactic(auto)]
 
 mod checks;

@@ -1,7 +1,7 @@
-// What a call leaves on the stack: nothing that depends on a secret.
-//
-// The functions that handle secrets keep copies of them in their frames: rooms, schedules, saved registers. The compiler drops a wipe of a
-// room that is not read again, so the frames themselves are overwritten once a call, and what was written is read back into the answer.
+//! What a call leaves on the stack: nothing that depends on a secret.
+//!
+//! The functions that handle secrets keep copies of them in their frames: rooms, schedules, saved registers. The compiler drops a wipe of a
+//! room that is not read again, so the frames themselves are overwritten once a call, and what was written is read back into the answer.
 ghost use Rattle.std.specs.Prelude.{◌≡◌, Result, length, replicate};
 
 use scheme::Refusal;

@@ -1,4 +1,4 @@
-// The Reed-Solomon code: decoding to the one code word within t places, and the generator.
+//! The Reed-Solomon code: decoding to the one code word within t places, and the generator.
 #![tactic(auto)]
 
 ghost use Rattle.std.specs.Prelude.{◌≡◌, ℕ, ◌+◌, ◌-◌, ◌*◌, ◌≤◌, ◌<◌, length, get_or};
@@ -21,7 +21,7 @@ mod settle;
 mod sums;
 mod values;
 
-// There is no code word near enough.
+/// There is no code word near enough.
 #[derive(Clone, Copy, Debug, PartialEq, Eq)]
 pub struct Undecodable;
 
@@ -80,8 +80,8 @@ fn correct(
     apply(word, sums, places, there, &values[..places.len()], products)
 }
 
-// Decodes a word in place: it becomes the code word within t places, where there is one, and else stays as it was. Of
-// the work area `decoding_room` numbers are used, whatever they hold.
+/// Decodes a word in place: it becomes the code word within t places, where there is one, and else stays as it was. Of
+/// the work area `decoding_room` numbers are used, whatever they hold.
 pub fn decode(word: &mut [u16], t: usize, work: &mut [u16]) -> Result<(), Undecodable>
     requires half { t + t ≤ length word.old }
     requires order { length word.old ≤ order ten }
@@ -116,7 +116,7 @@ pub fn decode(word: &mut [u16], t: usize, work: &mut [u16]) -> Result<(), Undeco
     )
 }
 
-// Writes the coefficients of the product of (x - α^i), i = 1..s, into s + 1 numbers.
+/// Writes the coefficients of the product of (x - α^i), i = 1..s, into s + 1 numbers.
 pub fn generator(out: &mut [u16])
     requires some { 0 < length out.old }
     ensures { out.new ≡ generator ten (length out.old - 1) }

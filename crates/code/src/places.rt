@@ -1,4 +1,4 @@
-// The places that may be wrong: the roots of the locator.
+//! The places that may be wrong: the roots of the locator.
 ghost use Rattle.std.specs.Prelude.{◌≡◌, ◌≢◌, ℕ, ◌+◌, ◌*◌, ◌≤◌, ◌<◌, length, get_or, take};
 ghost use Rattle.gf.specs.Field.{order};
 ghost use Rattle.gf.specs.Ten.{ten};
@@ -7,7 +7,7 @@ ghost use Rattle.code.specs.Stages.{Elements, Powers, Equation, Kept, Collected,
 
 use crate::sums::power_sums;
 
-// Row i of a system of equations: the coefficients, and the right side after them.
+/// Row i of a system of equations: the coefficients, and the right side after them.
 pub fn put_equation(matrix: &mut [u16], i: usize, left: &[u16], right: u16)
     requires fits { i * (length left.now + 1) + (length left.now + 1) ≤ length matrix.old }
     ensures { Equation i left.now right matrix.old matrix.new }
@@ -57,7 +57,7 @@ fn collect(values: &[u16], places: &mut [u16]) -> usize
     count
 }
 
-// Finds the places where a code word near a word with these power sums can differ from it. Answers how many.
+/// Finds the places where a code word near a word with these power sums can differ from it. Answers how many.
 pub fn find_places(
     sums: &[u16],
     matrix: &mut [u16],

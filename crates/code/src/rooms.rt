@@ -1,19 +1,19 @@
-// The work area of decoding, cut into a part for each list that decoding keeps.
+//! The work area of decoding, cut into a part for each list that decoding keeps.
 ghost use Rattle.std.specs.Prelude.{◌≡◌, ◌+◌, ◌*◌, ◌≤◌, length};
 ghost use Rattle.code.specs.Area.{decoding_room};
 
-// For a word of n places, of which t may be wrong.
+/// For a word of n places, of which t may be wrong.
 pub struct Rooms<'w> {
-    // the equations
+    /// the equations
     pub matrix: &'w mut [u16],
-    // the 2t power sums of the word, and as many powers of α
+    /// the 2t power sums of the word, and as many powers of α
     pub sums: &'w mut [u16],
     pub powers: &'w mut [u16],
-    // the locator's t + 1 coefficients, its values at the n points, and the points
+    /// the locator's t + 1 coefficients, its values at the n points, and the points
     pub locator: &'w mut [u16],
     pub values: &'w mut [u16],
     pub points: &'w mut [u16],
-    // the places that may be wrong
+    /// the places that may be wrong
     pub places: &'w mut [u16],
 }
 

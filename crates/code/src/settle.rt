@@ -1,4 +1,4 @@
-// The power sums of the corrected word, from those of the word before it and from the values that were added.
+//! The power sums of the corrected word, from those of the word before it and from the values that were added.
 ghost use Rattle.std.specs.Prelude.{◌≡◌, ℕ, ◌+◌, ◌<◌, length, get_or};
 ghost use Rattle.gf.specs.Field.{◌⊕◌};
 ghost use Rattle.gf.specs.Ten.{ten};
@@ -15,7 +15,7 @@ fn total(values: &[u16]) -> u16
     sum
 }
 
-// What the values at these points bring is added to the power sums, from number 1 on. The values become products of theirs.
+/// What the values at these points bring is added to the power sums, from number 1 on. The values become products of theirs.
 pub fn add_sums(sums: &mut [u16], points: &[u16], values: &mut [u16])
     requires same { length values.old ≡ length points.now }
     requires small { Elements ten values.old }

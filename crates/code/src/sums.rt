@@ -1,4 +1,4 @@
-// Power sums, all of them at once by Horner's rule.
+//! Power sums, all of them at once by Horner's rule.
 ghost use Rattle.std.specs.Prelude.{◌≡◌, ◌↔◌, ℕ, ◌+◌, ◌<◌, length, get_or, IsTrue};
 ghost use Rattle.gf.specs.Field.{◌⊕◌, mul};
 ghost use Rattle.gf.specs.Ten.{ten};
@@ -34,7 +34,7 @@ fn horner(sums: &mut [u16], powers: &[u16], x: u16)
     add_to_all(sums, x);
 }
 
-// The word's power sums from number `from` on, with the powers of α that they take.
+/// The word's power sums from number `from` on, with the powers of α that they take.
 pub fn power_sums(word: &[u16], from: usize, sums: &mut [u16], powers: &mut [u16])
     requires same { length powers.old ≡ length sums.old }
     requires small { Elements ten word.now }
@@ -48,7 +48,7 @@ pub fn power_sums(word: &[u16], from: usize, sums: &mut [u16], powers: &mut [u16
     }
 }
 
-// Whether the numbers are all 0.
+/// Whether the numbers are all 0.
 pub fn all_zero(sums: &[u16]) -> bool
     ensures { IsTrue result ↔ AllZero sums.now }
 {

@@ -1,4 +1,4 @@
-// The values that the word is wrong by: the solution of the equations of the power sums at the places found.
+//! The values that the word is wrong by: the solution of the equations of the power sums at the places found.
 ghost use Rattle.std.specs.Prelude.{◌≡◌, ℕ, ◌+◌, ◌*◌, ◌≤◌, ◌<◌, length, get_or};
 ghost use Rattle.gf.specs.Field.{order, alpha};
 ghost use Rattle.gf.specs.Ten.{ten};
@@ -32,7 +32,7 @@ fn power_rows(matrix: &mut [u16], points: &[u16], next: &mut [u16], sums: &[u16]
     }
 }
 
-// Finds what a code word near a word with these power sums differs by at the places, and the points there.
+/// Finds what a code word near a word with these power sums differs by at the places, and the points there.
 pub fn find_values(
     sums: &[u16],
     places: &[u16],
@@ -60,7 +60,7 @@ pub fn find_values(
     linear::kernel::kernel_vector(matrix, r, r + 1, values);
 }
 
-// The values are added to the word at the places.
+/// The values are added to the word at the places.
 pub fn add_values(word: &mut [u16], places: &[u16], values: &[u16])
     requires same { length values.now ≡ length places.now }
     requires below { (k : ℕ) → k < length places.now → get_or places.now k 0 < length word.old }

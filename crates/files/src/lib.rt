@@ -1,4 +1,4 @@
-// What the programs `setup`, `seal` and `open` share: files that their arguments name, and the one line that they print.
+//! What the programs `setup`, `seal` and `open` share: files that their arguments name, and the one line that they print.
 #![tactic(auto)]
 
 ghost use Rattle.std.specs.Prelude.{◌≤◌, length, IfOk, IfSome};

@@ -1,4 +1,6 @@
-// The field calls, each with its own yes or no. A number of 1024 or more is no element: the answer is None.
+//! The field calls, each with its own yes or no. A number of 1024 or more is no element: the answer is None.
+//!
+//! `product` and `power` stand here and at the head of the crate: there without a table, of elements, and they cannot fail.
 ghost use Rattle.std.specs.Prelude.{◌≡◌, ◌<◌};
 ghost use Rattle.gf.specs.Field.{size, mul};
 ghost use Rattle.gf.specs.Ten.{ten};
@@ -7,7 +9,7 @@ ghost use Rattle.gf.specs.Answers.{sum_answer, product_answer, inverse_answer, p
 use crate::logs::log_at;
 use crate::pows::pow_at;
 
-// the sum of two elements
+/// the sum of two elements
 pub fn sum(a: u16, b: u16) -> Option<u16>
     ensures { result ≡ sum_answer a b }
 {
@@ -31,7 +33,7 @@ fn by_tables(a: u16, b: u16) -> u16
     pow_at(((i + j) % 1023) as usize)
 }
 
-// the product of two elements
+/// the product of two elements
 pub fn product(a: u16, b: u16) -> Option<u16>
     ensures { result ≡ product_answer a b }
 {
@@ -41,7 +43,7 @@ pub fn product(a: u16, b: u16) -> Option<u16>
     Some(by_tables(a, b))
 }
 
-// the inverse of an element; of 0 there is none
+/// the inverse of an element; of 0 there is none
 pub fn inverse(a: u16) -> Option<u16>
     ensures { result ≡ inverse_answer a }
 {
@@ -51,7 +53,7 @@ pub fn inverse(a: u16) -> Option<u16>
     Some(crate::reciprocal(a))
 }
 
-// the logarithm of an element, 0 to 1022; of 0 there is none
+/// the logarithm of an element, 0 to 1022; of 0 there is none
 pub fn logarithm(a: u16) -> Option<u16>
     ensures { LogarithmAnswer a result }
 {
@@ -61,7 +63,7 @@ pub fn logarithm(a: u16) -> Option<u16>
     Some(log_at(a as usize))
 }
 
-// α to the i, for i from 0 to 1023
+/// α to the i, for i from 0 to 1023
 pub fn power(i: u16) -> Option<u16>
     ensures { result ≡ power_answer i }
 {

@@ -1,6 +1,6 @@
-// The field GF(2^10), modulo x^10 + x^3 + 1: elements are numbers below 1024, addition is exclusive or, α is 2.
-// For the layers above: functions on elements and kernels on rows and runs, total on all numbers, with no table indexed by a value
-// but in `power`. For users: the field calls in `calls`, which refuse what is no element.
+//! The field GF(2^10), modulo x^10 + x^3 + 1: elements are numbers below 1024, addition is exclusive or, α is 2.
+//! For the layers above: functions on elements and kernels on rows and runs, total on all numbers, with no table indexed by a value
+//! but in `power`. For users: the field calls in `calls`, which refuse what is no element.
 #![tactic(auto)]
 
 ghost use Rattle.std.specs.Prelude.{◌≡◌, ℕ, ◌+◌, ◌*◌, ◌%◌, ◌<◌, ◌≤◌, length};
@@ -46,7 +46,7 @@ fn combine(t: [u16; 10], v: u16) -> u16
     sum
 }
 
-// the product, with no table and no branch: of a number past the field its ten low digits count
+/// the product, with no table and no branch: of a number past the field its ten low digits count
 pub fn product(a: u16, b: u16) -> u16
     ensures value { result ≡ mul ten a b }
     ensures small { result < size ten }
@@ -54,7 +54,7 @@ pub fn product(a: u16, b: u16) -> u16
     combine(multiples(b), a)
 }
 
-// the inverse, with no table and no branch on the value: a ^ 1022, the product of a ^ 2, a ^ 4, .., a ^ 512; 0 at 0
+/// the inverse, with no table and no branch on the value: a ^ 1022, the product of a ^ 2, a ^ 4, .., a ^ 512; 0 at 0
 pub fn reciprocal(a: u16) -> u16
     ensures value { result ≡ inverse ten a }
     ensures small { result < size ten }
@@ -68,7 +68,7 @@ pub fn reciprocal(a: u16) -> u16
     r
 }
 
-// α to the i, for every i
+/// α to the i, for every i
 pub fn power(i: usize) -> u16
     ensures value { result ≡ alpha ten i }
     ensures small { result < size ten }
@@ -76,7 +76,7 @@ pub fn power(i: usize) -> u16
     pow_at(i % 1023)
 }
 
-// factor times each element of `by`, added to its partner in row
+/// factor times each element of `by`, added to its partner in row
 pub fn add_multiple(row: &mut [u16], factor: u16, by: &[u16])
     requires same_length { length by.now ≡ length row.old }
     ensures { row.new ≡ row_plus ten factor by.now row.old }
@@ -87,7 +87,7 @@ pub fn add_multiple(row: &mut [u16], factor: u16, by: &[u16])
     }
 }
 
-// each element of row times its partner in `by`
+/// each element of row times its partner in `by`
 pub fn multiply(row: &mut [u16], by: &[u16])
     requires same_length { length by.now ≡ length row.old }
     ensures { row.new ≡ row_times ten by.now row.old }
@@ -100,7 +100,7 @@ pub fn multiply(row: &mut [u16], by: &[u16])
 
 // The three below are on runs of one slice, which may overlap: so they are loops by hand over places.
 
-// f times the n elements from src on, added to those from dst on
+/// f times the n elements from src on, added to those from dst on
 pub fn add_run(s: &mut [u16], dst: usize, src: usize, n: usize, f: u16)
     requires dst_fits { dst + n ≤ length s.old }
     requires src_fits { src + n ≤ length s.old }
@@ -112,7 +112,7 @@ pub fn add_run(s: &mut [u16], dst: usize, src: usize, n: usize, f: u16)
     }
 }
 
-// the n elements from `at` on, times f
+/// the n elements from `at` on, times f
 pub fn scale_run(s: &mut [u16], at: usize, n: usize, f: u16)
     requires fits { at + n ≤ length s.old }
     ensures { s.new ≡ scale_run ten at n f s.old }
@@ -123,7 +123,7 @@ pub fn scale_run(s: &mut [u16], at: usize, n: usize, f: u16)
     }
 }
 
-// the n elements from dst on, each times its partner among those from src on
+/// the n elements from dst on, each times its partner among those from src on
 pub fn mul_run(s: &mut [u16], dst: usize, src: usize, n: usize)
     requires dst_fits { dst + n ≤ length s.old }
     requires src_fits { src + n ≤ length s.old }

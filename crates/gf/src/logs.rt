@@ -1,5 +1,5 @@
-// The logarithms: at the place a, the power of α that is a. Nothing reads the entry at 0.
-// `scripts/field-tables` writes it.
+//! The logarithms: at the place a, the power of α that is a. Nothing reads the entry at 0.
+//! `scripts/field-tables` writes it.
 ghost use Rattle.std.specs.Prelude.{◌<◌};
 ghost use Rattle.gf.specs.Field.{size, Logarithm};
 ghost use Rattle.gf.specs.Ten.{ten};
@@ -61,7 +61,7 @@ const LOGS: [u16; 1024] = [
     946, 947, 879, 948, 541, 880, 248, 949,
 ];
 
-// the i with α to the i = a
+/// the i with α to the i = a
 pub fn log_at(a: usize) -> u16
     requires some { 0 < a }
     requires within { a < size ten }

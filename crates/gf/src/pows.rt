@@ -1,5 +1,5 @@
-// The powers of α: a table of 1023 entries, each the previous times α.
-// `scripts/field-tables` writes it.
+//! The powers of α: a table of 1023 entries, each the previous times α.
+//! `scripts/field-tables` writes it.
 ghost use Rattle.std.specs.Prelude.{◌≡◌, ◌<◌};
 ghost use Rattle.gf.specs.Field.{order, alpha};
 ghost use Rattle.gf.specs.Ten.{ten};
@@ -61,7 +61,7 @@ const POWS: [u16; 1023] = [
     147, 294, 588, 145, 290, 580, 129, 258, 516,
 ];
 
-// α to the i
+/// α to the i
 pub fn pow_at(i: usize) -> u16
     requires { i < order ten }
     ensures { result ≡ alpha ten i }

@@ -1,6 +1,6 @@
-// The message schedule, the rounds and the compression of a block: FIPS 180-4, section 6.4.2.
-// The schedule is a ring of the last sixteen words, and a turn is sixteen rounds: a compiler then keeps the words in place. Kept as calls of
-// four rounds by hand, since the compiler does not unroll a loop of sixteen.
+//! The message schedule, the rounds and the compression of a block: FIPS 180-4, section 6.4.2.
+//! The schedule is a ring of the last sixteen words, and a turn is sixteen rounds: a compiler then keeps the words in place. Kept as calls of
+//! four rounds by hand, since the compiler does not unroll a loop of sixteen.
 ghost use Rattle.std.specs.Prelude.{◌≡◌, ℕ, ◌+◌, ◌*◌, ◌/◌, ◌<◌, ◌≤◌, List, length, slice_index, slice_set};
 ghost use Rattle.hash.specs.Constants.{k_table};
 ghost use Rattle.hash.specs.Sha.{word, round, plus, compress, chain};
@@ -115,7 +115,7 @@ fn add(s: &mut Words, v: Words)
     s.h = s.h.wrapping_add(v.h);
 }
 
-// The hash value goes on over the block `b`.
+/// The hash value goes on over the block `b`.
 pub fn compress(s: &mut Words, b: &[u8])
     requires { 128 ≤ length b.now }
     ensures { s.new ≡ compress s.old b.now }
@@ -138,7 +138,7 @@ pub fn compress(s: &mut Words, b: &[u8])
     add(s, v);
 }
 
-// And over every whole block of `p`, one after the other.
+/// And over every whole block of `p`, one after the other.
 pub fn blocks(s: &mut Words, p: &[u8])
     ensures { s.new ≡ chain s.old p.now (length p.now / 128) }
 {

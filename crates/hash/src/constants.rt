@@ -1,4 +1,4 @@
-// The constants of SHA-512, computed from the primes by scripts/sha512-constants: FIPS 180-4, sections 4.2.3 and 5.3.5.
+//! The constants of SHA-512, computed from the primes by scripts/sha512-constants: FIPS 180-4, sections 4.2.3 and 5.3.5.
 ghost use Rattle.std.specs.Prelude.{◌≡◌};
 ghost use Rattle.hash.specs.Constants.{k_table, initial};
 
@@ -87,14 +87,14 @@ const K: [u64; 80] = [
     0x6c44_198c_4a47_5817,
 ];
 
-// The constants of the eighty rounds. They are lent: a copy for each block would cost time.
+/// The constants of the eighty rounds. They are lent: a copy for each block would cost time.
 pub fn table() -> &'static [u64; 80]
     ensures { result.now ≡ k_table }
 {
     &K
 }
 
-// The hash value before the first block.
+/// The hash value before the first block.
 pub fn initial() -> Words
     ensures { result ≡ initial }
 {

@@ -1,5 +1,7 @@
-// The mask generator RLCE_MGF512 (RLCE-KEM specification of September 14, 2017, section 7.4) over a seed that a hasher was given, or
-// that comes in parts.
+//! The mask generator RLCE_MGF512 (RLCE-KEM specification of September 14, 2017, section 7.4) over a seed that a hasher was given, or
+//! that comes in parts.
+//!
+//! That a seed leaves room for a counter is a clause of the masks alone: a hasher takes more, so it is no fact of its type.
 ghost use Rattle.std.specs.Prelude.{◌≡◌, ℕ, ◌+◌, ◌^◌, ◌<◌, ◌≤◌, List, ◌++◌, length, map};
 ghost use Rattle.std.specs.List.{concat};
 ghost use Rattle.hash.specs.Sha.{sha512};
@@ -37,7 +39,7 @@ fn xor_into(s: &mut [u8], mask: &[u8])
     }
 }
 
-// Lays the mask of the seed that h was given over s.
+/// Lays the mask of the seed that h was given over s.
 pub fn xor_mask(h: &Hasher, s: &mut [u8])
     requires { h.now.len < 2 ^ 63 }
     ensures { (seed : List ℕ) → Holds h.now seed → s.new ≡ xored s.old (mgf seed (length s.old)) }
@@ -50,7 +52,7 @@ pub fn xor_mask(h: &Hasher, s: &mut [u8])
     }
 }
 
-// The mask of the seed that h was given, into s.
+/// The mask of the seed that h was given, into s.
 pub fn fill_mask(h: &Hasher, s: &mut [u8])
     requires { h.now.len < 2 ^ 63 }
     ensures { (seed : List ℕ) → Holds h.now seed → s.new ≡ mgf seed (length s.old) }
@@ -59,7 +61,7 @@ pub fn fill_mask(h: &Hasher, s: &mut [u8])
     xor_mask(h, s);
 }
 
-// Lays the mask of the seed that the parts are, one after the other, over s.
+/// Lays the mask of the seed that the parts are, one after the other, over s.
 pub fn xor_mask_of(seed: &[&[u8]], s: &mut [u8])
     requires { length (concat (map (λ part. part.now) seed.now)) < 2 ^ 63 }
     ensures { s.new ≡ xored s.old (mgf (concat (map (λ part. part.now) seed.now)) (length s.old)) }
@@ -71,7 +73,7 @@ pub fn xor_mask_of(seed: &[&[u8]], s: &mut [u8])
     xor_mask(&hasher, s);
 }
 
-// The mask of the seed that the parts are, one after the other, into s.
+/// The mask of the seed that the parts are, one after the other, into s.
 pub fn fill_mask_of(seed: &[&[u8]], s: &mut [u8])
     requires { length (concat (map (λ part. part.now) seed.now)) < 2 ^ 63 }
     ensures { s.new ≡ mgf (concat (map (λ part. part.now) seed.now)) (length s.old) }

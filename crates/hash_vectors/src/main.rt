@@ -1,5 +1,5 @@
-// Digests, one to a line: the examples of FIPS 180-4, a pattern at many lengths, and what the call leaves of a slice that it
-// refuses. scripts/hash-vectors makes the expected output with another implementation.
+//! Digests, one to a line: the examples of FIPS 180-4, a pattern at many lengths, and what the call leaves of a slice that it
+//! refuses. scripts/hash-vectors makes the expected output with another implementation.
 #![tactic(auto)]
 
 use hash::calls::sha512;

@@ -1,11 +1,11 @@
-// The inverse of a square matrix, by elimination beside the identity matrix.
+//! The inverse of a square matrix, by elimination beside the identity matrix.
 ghost use Rattle.std.specs.Prelude.{◌≡◌, ◌+◌, ◌*◌, ◌<◌, ◌≤◌, length};
 ghost use Rattle.gf.specs.Ten.{ten};
 ghost use Rattle.linear.specs.Inverse.{LeftHalf, identity, beside_row, beside, inverted, Inverts};
 
 use crate::eliminate;
 
-// There is no inverse.
+/// There is no inverse.
 #[derive(Clone, Copy, Debug, PartialEq, Eq)]
 pub struct Singular;
 
@@ -37,7 +37,7 @@ fn put_identity(m: &mut [u16], n: usize)
     }
 }
 
-// Inverts the matrix in the left half of n rows of 2n: where there is an inverse, it stands in the right half afterwards.
+/// Inverts the matrix in the left half of n rows of 2n: where there is an inverse, it stands in the right half afterwards.
 pub fn invert(m: &mut [u16], n: usize) -> Result<(), Singular>
     requires half { LeftHalf ten n m.old }
     requires small { n < 65536 }

@@ -1,4 +1,4 @@
-// A vector of the kernel of a matrix with more columns than rows.
+//! A vector of the kernel of a matrix with more columns than rows.
 ghost use Rattle.std.specs.Prelude.{◌≡◌, ◌+◌, ◌*◌, ◌<◌, ◌≤◌, length};
 ghost use Rattle.lists.specs.Loops.{tab};
 ghost use Rattle.gf.specs.Ten.{ten};
@@ -35,7 +35,7 @@ fn read_kernel(m: &[u16], cols: usize, r: usize, v: &mut [u16])
     }
 }
 
-// Eliminates the matrix and writes a vector of its kernel. Answers how many columns are done: there the vector is 1.
+/// Eliminates the matrix and writes a vector of its kernel. Answers how many columns are done: there the vector is 1.
 pub fn kernel_vector(m: &mut [u16], rows: usize, cols: usize, v: &mut [u16]) -> usize
     requires matrix { Matrix ten rows cols m.old }
     requires wide { rows < cols }

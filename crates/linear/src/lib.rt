@@ -1,8 +1,8 @@
-// Linear algebra over the field, on matrices that lie row after row in a lent slice: elimination, the inverse of a
-// square matrix, a vector of the kernel.
-//
-// Kept as a slice with `rows` and `cols` beside it, and no struct of the three: a method with `&mut self` may leave other numbers of rows
-// and columns, so each step would have to say, one clause more, that they stay.
+//! Linear algebra over the field, on matrices that lie row after row in a lent slice: elimination, the inverse of a
+//! square matrix, a vector of the kernel.
+//!
+//! Kept as a slice with `rows` and `cols` beside it, and no struct of the three: a method with `&mut self` may leave other numbers of rows
+//! and columns, so each step would have to say, one clause more, that they stay.
 #![tactic(auto)]
 
 ghost use Rattle.std.specs.Prelude.{◌≡◌, ◌≢◌, ◌+◌, ◌*◌, ◌<◌, ◌≤◌, length, IfSome, IfNone};
@@ -158,14 +158,14 @@ fn reduce_column(m: &mut [u16], rows: usize, cols: usize, c: usize, p: usize) ->
     a + b + d
 }
 
-// How many columns are done, and how many row operations it took.
+/// How many columns are done, and how many row operations it took.
 #[derive(Clone, Copy)]
 pub struct Outcome {
     pub cols: usize,
     pub ops: usize,
 }
 
-// Eliminates `limit` columns, or those before the first without a usable row.
+/// Eliminates `limit` columns, or those before the first without a usable row.
 pub fn eliminate(m: &mut [u16], rows: usize, cols: usize, limit: usize) -> Outcome
     requires matrix { Matrix ten rows cols m.old }
     requires in_rows { limit ≤ rows }

@@ -1,4 +1,4 @@
-// Two-by-two blocks: searched among the elements, and inverted.
+//! Two-by-two blocks: searched among the elements, and inverted.
 ghost use Rattle.std.specs.Prelude.{◌≡◌, ◌+◌, ◌*◌, ◌≤◌, ◌<◌, length, [], ◌∷◌, get_or, IfSome, IfNone, OnOk, OnErr, IfErr};
 ghost use Rattle.gf.specs.Field.{mul, inverse};
 ghost use Rattle.gf.specs.Ten.{ten};

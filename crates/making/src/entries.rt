@@ -1,4 +1,6 @@
-// The matrix before its reduction, entry by entry, and its reduction.
+//! The matrix before its reduction, entry by entry, and its reduction.
+//!
+//! A row's coefficients stand in lent room that each row writes anew, so they go beside `Entries` and are no field of it.
 ghost use Rattle.std.specs.Prelude.{◌≡◌, ℕ, ◌+◌, ◌-◌, ◌*◌, ◌≤◌, ◌<◌, length, get_or, OnOk, OnErr, IfErr};
 ghost use Rattle.gf.specs.Ten.{ten};
 ghost use Rattle.code.specs.Generator.{generator as generator_of};

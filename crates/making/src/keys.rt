@@ -1,4 +1,4 @@
-// Both keys as bytes.
+//! Both keys as bytes.
 ghost use Rattle.std.specs.Prelude.{◌≡◌, ◌+◌, ◌-◌, ◌*◌, ◌≤◌, ◌<◌, length, take, ◌∷◌, ◌++◌};
 ghost use Rattle.gf.specs.Field.{width};
 ghost use Rattle.gf.specs.Ten.{ten};

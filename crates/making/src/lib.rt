@@ -1,4 +1,4 @@
-// Key setup: from random bytes to a key pair, or to the refusal that ends it. `setup` of the crate `scheme` says what it makes.
+//! Key setup: from random bytes to a key pair, or to the refusal that ends it. `setup` of the crate `scheme` says what it makes.
 #![tactic(auto)]
 
 mod blocks;

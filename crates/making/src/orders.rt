@@ -1,4 +1,4 @@
-// The two permutations, and the first window of the second that mixes few of the first k columns.
+//! The two permutations, and the first window of the second that mixes few of the first k columns.
 ghost use Rattle.std.specs.Prelude.{◌≡◌, ◌+◌, ◌-◌, ◌≤◌, ◌<◌, length, take, count_by, nat_le, IfOk, IfErr, OnErr};
 ghost use Rattle.scheme.specs.Setup.{permutation1, permutation2, window};
 

@@ -1,4 +1,4 @@
-// The random bytes of a setup: first its elements, then the 16-bit numbers that choose the permutations.
+//! The random bytes of a setup: first its elements, then the 16-bit numbers that choose the permutations.
 ghost use Rattle.std.specs.Prelude.{◌≡◌, ◌+◌, ◌-◌, ◌*◌, ◌^◌, ◌≤◌, ◌<◌, length, get_or, take, drop, min};
 ghost use Rattle.gf.specs.Field.{width};
 ghost use Rattle.gf.specs.Ten.{ten};

@@ -1,4 +1,4 @@
-// The work area of setup, cut into its parts.
+//! The work area of setup, cut into its parts.
 ghost use Rattle.std.specs.Prelude.{◌≡◌, ◌+◌, ◌-◌, ◌*◌, ◌≤◌, length};
 ghost use Rattle.making.specs.Sizes.{run_size};
 
@@ -9,13 +9,13 @@ use sets::ParameterSet;
 pub struct Rooms<'w> {
     pub parameters: ParameterSet,
     pub matrix: &'w mut [u16],
-    // what the matrix's entries are made of
+    /// what the matrix's entries are made of
     pub multipliers: &'w mut [u16],
     pub blocks: &'w mut [u16],
     pub first: &'w mut [u16],
     pub second: &'w mut [u16],
     pub generator: &'w mut [u16],
-    // the elements of the block search, then the coefficients of a row, last the run of elements that the private key packs
+    /// the elements of the block search, then the coefficients of a row, last the run of elements that the private key packs
     pub rest: &'w mut [u16],
     pub ghost matrix_len: { length matrix.now ≡ parameters.set.k * (parameters.set.n + parameters.set.w) },
     pub ghost multipliers_len: { length multipliers.now ≡ parameters.set.n },

@@ -1,5 +1,5 @@
-// Masks, one to a line: lengths of seed and mask, the answer, and the digest of the slice afterwards, which began with sevens.
-// scripts/hash-vectors makes the expected output with another implementation.
+//! Masks, one to a line: lengths of seed and mask, the answer, and the digest of the slice afterwards, which began with sevens.
+//! scripts/hash-vectors makes the expected output with another implementation.
 #![tactic(auto)]
 
 use hash::calls::mask;

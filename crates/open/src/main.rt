@@ -1,6 +1,6 @@
-// open PRIVATE CIPHER MESSAGE: opens the 57 bytes of the file CIPHER with a private key of set 6.
-//
-// Prints `done`, with the message in the file MESSAGE, or `refused` and the answer's number, with the file as it was.
+//! open PRIVATE CIPHER MESSAGE: opens the 57 bytes of the file CIPHER with a private key of set 6.
+//!
+//! Prints `done`, with the message in the file MESSAGE, or `refused` and the answer's number, with the file as it was.
 #![tactic(auto)]
 
 use std::rt::Runtime;

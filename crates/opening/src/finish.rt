@@ -1,4 +1,4 @@
-// From the vector to the message: the places where its word differs from what was received, the differences, and the padded string.
+//! From the vector to the message: the places where its word differs from what was received, the differences, and the padded string.
 ghost use Rattle.std.specs.Prelude.{◌≡◌, ◌≢◌, ℕ, ◌+◌, ◌*◌, ◌<◌, ◌≤◌, length, get_or, take, EachIndex, OnOk, IfErr};
 ghost use Rattle.gf.specs.Field.{◌⊕◌};
 ghost use Rattle.bits.specs.Bits.{packed, bytes_for, Small};

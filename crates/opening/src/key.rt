@@ -1,4 +1,4 @@
-// A private key, read straight from its bytes.
+//! A private key, read straight from its bytes.
 ghost use Rattle.std.specs.Prelude.{◌≡◌, ◌≢◌, ◌↔◌, ℕ, IsTrue, IfOk, IfErr, Some, ◌+◌, ◌-◌, ◌*◌, ◌<◌, ◌≤◌, ◌^◌, length, get_or, drop};
 ghost use Rattle.bits.specs.Bits.{tail_zero};
 ghost use Rattle.bits.specs.Numbers.{numbers16};

@@ -1,4 +1,4 @@
-// Opening a ciphertext with a private key (RLCE-KEM specification of September 14, 2017, section 6.3).
+//! Opening a ciphertext with a private key (RLCE-KEM specification of September 14, 2017, section 6.3).
 #![tactic(auto)]
 
 ghost use Rattle.std.specs.Prelude.{◌≡◌, ◌+◌, ◌-◌, ◌*◌, ◌≤◌, length};

@@ -1,4 +1,4 @@
-// The matrix W.
+//! The matrix W.
 ghost use Rattle.std.specs.Prelude.{◌≡◌, ℕ, ◌+◌, ◌-◌, ◌*◌, ◌<◌, ◌≤◌, length, get_or, OnOk, IfErr};
 ghost use Rattle.scheme.specs.Keys.{WellFormed};
 ghost use Rattle.scheme.specs.Opening.{places_i, places_t};

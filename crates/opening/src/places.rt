@@ -1,4 +1,4 @@
-// Lists of places that pass a test, rising.
+//! Lists of places that pass a test, rising.
 ghost use Rattle.std.specs.Prelude.{◌≡◌, ℕ, Bool, ◌+◌, ◌-◌, ◌<◌, ◌≤◌, length, take};
 ghost use Rattle.scheme.specs.Lists.{passing, inverse_of};
 ghost use Rattle.scheme.specs.Keys.{WellFormed};

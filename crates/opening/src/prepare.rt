@@ -1,4 +1,4 @@
-// Preparing a key: it is judged and read, its places are listed, and W is inverted.
+//! Preparing a key: it is judged and read, its places are listed, and W is inverted.
 ghost use Rattle.std.specs.Prelude.{◌≡◌, ℕ, ◌+◌, ◌-◌, ◌*◌, ◌/◌, ◌<◌, ◌≤◌, length, OnOk, IfOk, IfErr};
 ghost use Rattle.bits.specs.Numbers.{numbers16};
 ghost use Rattle.perm.specs.Perm.{Perm};

@@ -1,4 +1,4 @@
-// Sums of the rows of a matrix, each row times its factor.
+//! Sums of the rows of a matrix, each row times its factor.
 ghost use Rattle.std.specs.Prelude.{◌≡◌, ℕ, ◌+◌, ◌*◌, ◌<◌, ◌≤◌, length, get_or, EachIndex};
 ghost use Rattle.gf.specs.Ten.{ten};
 ghost use Rattle.scheme.specs.Sealing.{combined};

@@ -1,4 +1,4 @@
-// From the elements received to the code word near them.
+//! From the elements received to the code word near them.
 ghost use Rattle.std.specs.Prelude.{◌≡◌, ℕ, List, ◌+◌, ◌*◌, ◌<◌, ◌≤◌, length, get_or, OnOk, IfErr};
 ghost use Rattle.gf.specs.Ten.{ten};
 ghost use Rattle.code.specs.Area.{decoding_room};

@@ -1,4 +1,6 @@
-// From the code word to the vector: read back at the unmixed places, solved for the others.
+//! From the code word to the vector: read back at the unmixed places, solved for the others.
+//!
+//! The word and the vector stay slices with their lengths as clauses: a struct for each length would be made and taken apart at each call.
 ghost use Rattle.std.specs.Prelude.{◌≡◌, ◌≢◌, ℕ, ◌+◌, ◌-◌, ◌*◌, ◌<◌, ◌≤◌, length, get_or, take, EachIndex};
 ghost use Rattle.gf.specs.Ten.{ten};
 

@@ -1,5 +1,5 @@
-// RLCEpad and RLCEpadDecode (RLCE-KEM specification of September 14, 2017, section 7.13), in place on the padded string: message,
-// check bytes, pad seed. Decoding takes the masks of padding off again, in reverse order.
+//! RLCEpad and RLCEpadDecode (RLCE-KEM specification of September 14, 2017, section 7.13), in place on the padded string: message,
+//! check bytes, pad seed. Decoding takes the masks of padding off again, in reverse order.
 #![tactic(auto)]
 
 ghost use Rattle.std.specs.Prelude.{◌≡◌, ◌+◌, ◌^◌, ◌<◌, fold, length};
@@ -41,7 +41,7 @@ fn gathered(s: &[u8]) -> u8
     s.iter().fold(0, |bits, byte| bits | byte)
 }
 
-// RLCEpad: the message, padded with the pad seed and e0, into `out`.
+/// RLCEpad: the message, padded with the pad seed and e0, into `out`.
 pub fn pad(parameters: ParameterSet, msg: &[u8], seed: &[u8], e0: &[u8], out: &mut [u8])
     requires message_length { length msg.now ≡ parameters.set.k1 }
     requires seed_length { length seed.now ≡ parameters.set.k3 }
@@ -60,7 +60,7 @@ pub fn pad(parameters: ParameterSet, msg: &[u8], seed: &[u8], e0: &[u8], out: &m
     xor_mask_of(&[front], last);
 }
 
-// RLCEpadDecode: the message of the padded string p, if its check bytes are right. p is worked on in place.
+/// RLCEpadDecode: the message of the padded string p, if its check bytes are right. p is worked on in place.
 pub fn unpad(
     parameters: ParameterSet,
     p: &mut [u8],

@@ -79,6 +79,6 @@ module _ (K : Field) (s : Sizes) (X : ℕ → K.F) (P : Points K X s.n) (κ : Ke
     pub opens-once : (x' : ℕ → F) → Finds K s X κ u T y x' → (i : ℕ) → i < s.k → x' i ≡ x i
     opens-once x' found = finds-once K s κ u I T S G.regular ok X P y x' x found opens
 
-    -- "Then recompute the word": its difference to the received one is the error
+    -- Then recompute the word: its difference to the received one is the error
     pub opens-error : (j : ℕ) → j < total s → word x j ⊕ y j ≡ e j
     opens-error j l = rw (sent j l) (simp ring)

@@ -101,7 +101,7 @@ module _ (K : Field) (s : Sizes) (κ : Key K) where
     pub unmixed-low : (i : ℕ) → Unmixed K s κ i → κ.p1 (κ.p2 i) < s.n
     unmixed-low i h = ok.first.low_back (κ.p2 i) (omega arith)
 
-    -- 6.3, 14 and 15 take back what 9 and 10 did
+    -- steps 14 and 15 of the specification, section 6.3, take back what 9 and 10 did
     pub redone-undone : (y : ℕ → F) (i : ℕ) → i < total s → Unmixed K s κ i → redone K s κ (undone K s κ y) (κ.p2 i) ≡ y i
     unfolding redone
     redone-undone y i l h =

@@ -1,6 +1,8 @@
 //! Permutations of places: the shuffle of the RLCE-KEM specification of September 14, 2017, section 7.8, and the inverse of a permutation.
 //!
 //! `shuffle_call` and `invert_call` take any input. The functions they stand on, which the layers above use, say what they require.
+//
+// That a list has at most 65536 entries stays a clause: the lists are lent slices, and a type would be made and taken apart at each call.
 #![tactic(auto)]
 
 mod inverse;

@@ -1,4 +1,4 @@
-// The definitions of RLCE wrapping stand in specs/; the code that meets them stands in the crates above.
+//! The definitions of RLCE wrapping stand in specs/; the code that meets them stands in the crates above.
 #![tactic(auto)]
 
 ghost use Rattle.std.specs.Prelude.{◌≡◌};

@@ -1,8 +1,8 @@
-// seal PUBLIC RANDOM MESSAGE CIPHER: seals the 30 bytes of the file MESSAGE under a public key of set 6, with random bytes of 1 to 16
-// blocks of 24.
-//
-// Prints `done` and the number of the block used, with the ciphertext in the file CIPHER, or `refused` and the answer's number,
-// with the file as it was.
+//! seal PUBLIC RANDOM MESSAGE CIPHER: seals the 30 bytes of the file MESSAGE under a public key of set 6, with random bytes of 1 to 16
+//! blocks of 24.
+//!
+//! Prints `done` and the number of the block used, with the ciphertext in the file CIPHER, or `refused` and the answer's number,
+//! with the file as it was.
 #![tactic(auto)]
 
 use std::rt::Runtime;

@@ -1,4 +1,4 @@
-// What a random block gives: its places, and the elements of message, pad seed and places.
+//! What a random block gives: its places, and the elements of message, pad seed and places.
 ghost use Rattle.std.specs.Prelude.{◌≡◌, not, ◌+◌, ◌*◌, ◌≤◌, length, take, drop};
 ghost use Rattle.bits.specs.Numbers.{bytes16};
 ghost use Rattle.scheme.specs.Lists.{has};
@@ -60,8 +60,8 @@ fn draw(
     all_set(&elements[set.k..])
 }
 
-// Places and elements of a random block; the answer is whether the block fits, which it does if no error value is zero. There is room for the
-// padded string.
+/// Places and elements of a random block; the answer is whether the block fits, which it does if no error value is zero. There is room for the
+/// padded string.
 pub fn try_block(msg: &[u8], block: &[u8], padded: &mut [u8], rooms: &mut SealRooms) -> bool
     requires few_places { 2 * rooms.old.parameters.set.t ≤ 1024 }
     requires message_length { length msg.now ≡ rooms.old.parameters.set.k1 }

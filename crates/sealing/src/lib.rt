@@ -1,5 +1,5 @@
-// Sealing (RLCE-KEM specification of September 14, 2017, section 6.2): the ciphertext of a message of k1 bytes under a public key, by the
-// first random block that fits.
+//! Sealing (RLCE-KEM specification of September 14, 2017, section 6.2): the ciphertext of a message of k1 bytes under a public key, by the
+//! first random block that fits.
 #![tactic(auto)]
 
 ghost use Rattle.std.specs.Prelude.{◌≡◌, ◌+◌, ◌*◌, ◌≤◌, length};
@@ -54,8 +54,8 @@ fn send(key: &[u8], rooms: &mut SealRooms, cipher: &mut [u8])
     pack(rooms.word, set.m, cipher);
 }
 
-// The message's ciphertext under the key, by the first of the random blocks that fits, and the block's number. Where none fits, ciphertext
-// and work area hold anything.
+/// The message's ciphertext under the key, by the first of the random blocks that fits, and the block's number. Where none fits, ciphertext
+/// and work area hold anything.
 pub fn seal(
     parameters: ParameterSet,
     key: &[u8],

@@ -1,10 +1,10 @@
-// The parts of the lent work area.
+//! The parts of the lent work area.
 ghost use Rattle.std.specs.Prelude.{◌≡◌, ◌+◌, length};
 
 use sets::ParameterSet;
 
-// Room for the word and, before it, the shuffle of its places; for a row of GE and, before it, the marks of the places; for the places; and
-// for the elements of the padded string: the message vector, then the error values.
+/// Room for the word and, before it, the shuffle of its places; for a row of GE and, before it, the marks of the places; for the places; and
+/// for the elements of the padded string: the message vector, then the error values.
 #[derive(Drop)]
 pub struct SealRooms<'w> {
     pub parameters: ParameterSet,

@@ -1,4 +1,4 @@
-// The word that is sent: the vector times [I, GE], with the error values added at their places.
+//! The word that is sent: the vector times [I, GE], with the error values added at their places.
 ghost use Rattle.std.specs.Prelude.{◌≡◌, ℕ, ◌+◌, ◌-◌, ◌*◌, ◌<◌, ◌≤◌, ◌^◌, length, get_or};
 ghost use Rattle.bits.specs.Bits.{elements_at};
 ghost use Rattle.sealing.specs.Steps.{Rising, Encoded, Added};
@@ -6,7 +6,7 @@ ghost use Rattle.sealing.specs.Steps.{Rising, Encoded, Added};
 use gf::add_multiple;
 use reader::elements;
 
-// The vector times [I, GE], into `word`. The rows of GE stand in the key after its first byte; there is room for one.
+/// The vector times [I, GE], into `word`. The rows of GE stand in the key after its first byte; there is room for one.
 pub fn encode(key: &[u8], m: usize, vector: &[u16], row: &mut [u16], word: &mut [u16])
     requires narrow { m ≤ 16 }
     requires columns { length vector.now + length row.old ≡ length word.old }
@@ -24,7 +24,7 @@ pub fn encode(key: &[u8], m: usize, vector: &[u16], row: &mut [u16], word: &mut 
     }
 }
 
-// Each of the values is added at its place.
+/// Each of the values is added at its place.
 pub fn add_values(word: &mut [u16], places: &[u16], values: &[u16])
     requires same_length { length values.now ≡ length places.now }
     requires rising { Rising places.now }

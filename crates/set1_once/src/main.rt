@@ -1,5 +1,5 @@
-// Set 1 once through setup, sealing and opening: answers, counts and digests. The random bytes and the message are masks of three words, so
-// that another implementation can make them too; scripts/stored-cases writes the expected output with it.
+//! Set 1 once through setup, sealing and opening: answers, counts and digests. The random bytes and the message are masks of three words, so
+//! that another implementation can make them too; scripts/stored-cases writes the expected output with it.
 #![tactic(auto)]
 
 ghost use Rattle.std.specs.Prelude.{◌≡◌, length};

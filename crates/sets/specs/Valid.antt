@@ -25,7 +25,7 @@ pub record Valid (s : Set) : Type 0 where
   pub points : s.n < 2 ^ s.m
   -- a place is a 16-bit number
   pub places : s.n + s.w ≤ 65536
-  -- 7.13: message, check bytes and pad seed are the k + t elements, up to less than a byte
+  -- specification, section 7.13: message, check bytes and pad seed are the k + t elements, up to less than a byte
   pub padded : s.k1 + s.k2 + s.k3 ≡ bytes_for s.m (s.k + s.t)
   pub some_message : 0 < s.k1
   pub some_check : 0 < s.k2

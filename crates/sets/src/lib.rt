@@ -1,4 +1,4 @@
-// The sets of parameters: their numbers by value, and the set that a set byte names.
+//! The sets of parameters: their numbers by value, and the set that a set byte names.
 #![tactic(auto)]
 
 ghost use Rattle.std.specs.Prelude.{◌≡◌, option_map};
@@ -8,26 +8,26 @@ ghost use Rattle.sets.specs.Valid.{Valid};
 /// A row of the table of sets, and the lengths that must match.
 #[derive(Clone, Copy, Debug, PartialEq, Eq)]
 pub struct Set {
-    // the set byte, and the set's number
+    /// the set byte, and the set's number
     pub byte: usize,
     pub number: usize,
-    // the code's length, dimension and errors; the mixed columns; the bits of an element
+    /// the code's length, dimension and errors; the mixed columns; the bits of an element
     pub n: usize,
     pub k: usize,
     pub t: usize,
     pub w: usize,
     pub m: usize,
-    // bytes of the message, the check and the pad seed
+    /// bytes of the message, the check and the pad seed
     pub k1: usize,
     pub k2: usize,
     pub k3: usize,
-    // how many of the first k places may be mixed
+    /// how many of the first k places may be mixed
     pub u0: usize,
-    // bytes of the public key, the private key and the ciphertext
+    /// bytes of the public key, the private key and the ciphertext
     pub public: usize,
     pub private: usize,
     pub cipher: usize,
-    // random bytes of a setup and of a sealing's block; 16-bit numbers of the work area
+    /// random bytes of a setup and of a sealing's block; 16-bit numbers of the work area
     pub random: usize,
     pub block: usize,
     pub work: usize,

@@ -1,7 +1,7 @@
-// setup RANDOM PUBLIC PRIVATE: makes a key pair of set 6 from the 402 bytes of the file RANDOM.
-//
-// Prints `done` and the number of windows tried, with the keys in the files PUBLIC and PRIVATE, or `refused` and the answer's
-// number, with both files as they were.
+//! setup RANDOM PUBLIC PRIVATE: makes a key pair of set 6 from the 402 bytes of the file RANDOM.
+//!
+//! Prints `done` and the number of windows tried, with the keys in the files PUBLIC and PRIVATE, or `refused` and the answer's
+//! number, with both files as they were.
 #![tactic(auto)]
 
 use std::rt::Runtime;

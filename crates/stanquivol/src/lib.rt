@@ -1,4 +1,4 @@
-// The C interface, thin over the proved calls: every function returns the number of its answer. include/stanquivol.h is its manual.
+//! The C interface, thin over the proved calls: every function returns the number of its answer. include/stanquivol.h is its manual.
 #![tactic(auto)]
 
 ghost use Rattle.std.specs.Prelude.{◌≡◌, ◌<◌};

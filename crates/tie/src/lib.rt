@@ -1,2 +1,2 @@
-// The scheme's definitions on lists of numbers, tied to those of the crate `pairs` on elements of a field; no code.
+//! The scheme's definitions on lists of numbers, tied to those of the crate `pairs` on elements of a field; no code.
 #![tactic(auto)]
