@@ -5,6 +5,8 @@
 //! 2 open, 3 wrap, 4 unwrap, 5 by seeds), setup's set byte, the answer number, the count, whether the work area is kept (1) or
 //! zero (0) afterwards, and six lengths of two bytes: inputs, outputs, work area. Before a call every byte that may be written is
 //! 0xA5. scripts/call-vectors makes the cases.
+//!
+//! The slices of a case go one by one: over a struct of their arrays, which was tried, the check came to no end.
 #![tactic(auto)]
 
 mod seeded;

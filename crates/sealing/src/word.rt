@@ -24,7 +24,8 @@ pub fn encode(key: &[u8], m: usize, vector: &[u16], row: &mut [u16], word: &mut 
     }
 }
 
-/// Each of the values is added at its place.
+/// Each of the values is added at its place. Backwards, and in no one function with decoding's: of a place that stands twice the first value
+/// counts, as `error_at` has it.
 pub fn add_values(word: &mut [u16], places: &[u16], values: &[u16])
     requires same_length { length values.now ≡ length places.now }
     requires rising { Rising places.now }
