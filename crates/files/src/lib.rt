@@ -1,7 +1,8 @@
 //! What the programs `setup`, `seal` and `open` share: files that their arguments name, and the one line that they print.
 #![tactic(auto)]
 
-ghost use Rattle.std.specs.Prelude.{◌≤◌, length, IfOk, IfSome};
+ghost use Rattle.std.specs.Prelude.{◌≡◌, ◌≤◌, length, IfOk, IfSome};
+ghost use Rattle.scheme.specs.Answers.{number_of};
 
 use messages::Words;
 use scheme::Refusal;
@@ -136,10 +137,17 @@ pub fn write(rt: &(impl Env + Files + Eprint), i: usize, bytes: &[u8], secret: b
     }
 }
 
+/// The number of a refusal, which stands after `refused`.
+pub fn number(refusal: Refusal) -> u64
+    ensures { result ≡ number_of refusal }
+{
+    u64::from(u8::from(refusal))
+}
+
 /// Prints `refused` and the refusal's number.
 pub fn print_refused(refusal: Refusal) {
     io::write_all(STDOUT, b"refused ");
-    io::print_decimal(STDOUT, u64::from(u8::from(refusal)));
+    io::print_decimal(STDOUT, number(refusal));
     io::write_all(STDOUT, b"\n");
 }
 
