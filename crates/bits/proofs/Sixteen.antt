@@ -1,7 +1,7 @@
 -- 16-bit numbers: there and back.
 use mathlib.Core.Path.{◌≡◌, refl, sym, ◌∙◌, ap}
 use mathlib.Core.Bool.{true}
-use mathlib.Core.List.{List, [], ◌∷◌}
+use mathlib.Core.List.{List, [], ◌∷◌, ◌++◌}
 use Prim.Native.Nat.{ℕ, zero, suc, ◌+◌, ◌*◌, ◌/◌, ◌%◌, ◌^◌, ◌<◌}
 use native.Mathlib.Nat.{zero-mul, zero-add, add-zero, div-one, mod-eq_of_lt}
 use native.Mathlib.Decide.{dec_lt}
@@ -49,6 +49,11 @@ bytes16-small [] i = omega arith
 bytes16-small (x ∷ xs) zero = omega arith
 bytes16-small (x ∷ xs) (suc zero) = omega arith
 bytes16-small (x ∷ xs) (suc (suc i)) = bytes16-small xs i
+
+pub bytes16-append : (xs ys : List ℕ) → bytes16 (xs ++ ys) ≡ bytes16 xs ++ bytes16 ys
+unfolding bytes16
+bytes16-append [] ys = refl
+bytes16-append (x ∷ xs) ys = rw (bytes16-append xs ys)
 
 -- ---- numbers to bytes to numbers, and back
 pub numbers16-bytes16 : (xs : List ℕ) → Small 16 xs → numbers16 (bytes16 xs) ≡ xs

@@ -3,7 +3,7 @@ use mathlib.Core.Path.{◌≡◌, sym, ◌∙◌}
 use mathlib.Core.List.{List}
 use mathlib.Core.Bool.{Bool, true, false}
 use Prim.Native.Nat.{ℕ, ◌+◌, ◌-◌, ◌*◌, ◌/◌, ◌%◌, ◌^◌, ◌≤◌, ◌<◌}
-use native.Mathlib.Nat.{add-zero, zero-add, zero-mul, one-mul, mul-add, add_assoc, mul_left_comm, mul-add-div, mul-add-mod_self_left, mul-div-le, mul-le-mul_right, div-add-mod, mod-eq_of_lt}
+use native.Mathlib.Nat.{add-zero, zero-add, zero-mul, one-mul, mul-add, add_assoc, mul_comm, mul_left_comm, mul-add-div, mul-add-mod_self_left, mul-div-le, mul-le-mul_right, div-add-mod, mod-eq_of_lt}
 use native.Mathlib.Omega.{arith}
 use native.Mathlib.Decide.{dec_lt}
 use lib.ListN.{length, get_or, drop, get_or-eq_default}
@@ -21,23 +21,33 @@ pub one_shl : (m : ℕ) → m ≤ 16 → 1 * 2 ^ m % 2 ^ 32 ≡ 2 ^ m
 one_shl m h = rw one-mul (mod-eq_of_lt (omega (arith, pow_mono h)))
 
 -- ---- windows
--- m bits of three bytes
-pub three_bits : (m q r v : ℕ) (s : List ℕ) → ((i : ℕ) → Fits w8 (get_or s i 0)) → v ≡ (get_or s q 0 * 256 + get_or s (q + 1) 0) * 256 + get_or s (q + 2) 0 → m ≤ 16 → r < 8
-    → v / 2 ^ (24 - r - m) % 2 ^ m ≡ bits_at m s (8 * q + r)
+-- m bits of three bytes: r bits before them and t after
+pub three-bits : (m q r t : ℕ) (s : List ℕ) → Small 8 s → r + m + t ≡ 24
+    → ((get_or s q 0 * 256 + get_or s (q + 1) 0) * 256 + get_or s (q + 2) 0) / 2 ^ t % 2 ^ m ≡ bits_at m s (8 * q + r)
 unfolding bits_at digits
-three_bits m q r v s bytes e h g = rw e (sym (window 8 s (λ i. (bytes i).fits) m q r 3 (24 - r - m) (omega arith) ∙ simp (zero-mul, zero-add, get_or-drop, add-zero)))
+three-bits m q r t s small h = sym (window 8 s small m q r 3 t h ∙ simp (zero-mul, zero-add, get_or-drop, add-zero))
 
--- ten bits of two bytes
-pub pair_bits : (q r v : ℕ) (s : List ℕ) → ((i : ℕ) → Fits w8 (get_or s i 0)) → v ≡ get_or s q 0 * 256 + get_or s (q + 1) 0 → r ≤ 6 → v / 2 ^ (6 - r) % 2 ^ 10 ≡ bits_at 10 s (8 * q + r)
+-- m bits of two bytes
+pub pair-bits : (m q r t : ℕ) (s : List ℕ) → Small 8 s → r + m + t ≡ 16 → (get_or s q 0 * 256 + get_or s (q + 1) 0) / 2 ^ t % 2 ^ m ≡ bits_at m s (8 * q + r)
 unfolding bits_at digits
-pair_bits q r v s bytes e h = rw e (sym (window 8 s (λ i. (bytes i).fits) 10 q r 2 (6 - r) (omega arith) ∙ simp (zero-mul, zero-add, get_or-drop, add-zero)))
+pair-bits m q r t s small h = sym (window 8 s small m q r 2 t h ∙ simp (zero-mul, zero-add, get_or-drop, add-zero))
 
 -- eight bits of two elements
-pub two_bits : (m q r v : ℕ) (s : List ℕ) → Small m s → v ≡ get_or s q 0 * 2 ^ m + get_or s (q + 1) 0 → 8 ≤ m → r < m → v / 2 ^ (2 * m - r - 8) % 2 ^ 8 ≡ value 8 (drop (m * q + r) (bits m s))
+pub two-bits : (m q r t : ℕ) (s : List ℕ) → Small m s → r + 8 + t ≡ 2 * m
+    → (get_or s q 0 * 2 ^ m + get_or s (q + 1) 0) / 2 ^ t % 2 ^ 8 ≡ value 8 (drop (m * q + r) (bits m s))
 unfolding digits
-two_bits m q r v s small e h g =
-    let t : r + 8 + (2 * m - r - 8) ≡ m * 2 = omega arith in
-    rw e (sym (window m s small 8 q r 2 (2 * m - r - 8) t ∙ simp (zero-mul, zero-add, get_or-drop, add-zero)))
+two-bits m q r t s small h = sym (window m s small 8 q r 2 t (h ∙ mul_comm 2 m) ∙ simp (zero-mul, zero-add, get_or-drop, add-zero))
+
+-- the same as the code writes them
+pub three_bits : (m q r v : ℕ) (s : List ℕ) → ((i : ℕ) → Fits w8 (get_or s i 0)) → v ≡ (get_or s q 0 * 256 + get_or s (q + 1) 0) * 256 + get_or s (q + 2) 0 → m ≤ 16 → r < 8
+    → v / 2 ^ (24 - r - m) % 2 ^ m ≡ bits_at m s (8 * q + r)
+three_bits m q r v s bytes e h g = rw e (three-bits m q r (24 - r - m) s (λ i. (bytes i).fits) (omega arith))
+
+pub pair_bits : (q r v : ℕ) (s : List ℕ) → ((i : ℕ) → Fits w8 (get_or s i 0)) → v ≡ get_or s q 0 * 256 + get_or s (q + 1) 0 → r ≤ 6 → v / 2 ^ (6 - r) % 2 ^ 10 ≡ bits_at 10 s (8 * q + r)
+pair_bits q r v s bytes e h = rw e (pair-bits 10 q r (6 - r) s (λ i. (bytes i).fits) (omega arith))
+
+pub two_bits : (m q r v : ℕ) (s : List ℕ) → Small m s → v ≡ get_or s q 0 * 2 ^ m + get_or s (q + 1) 0 → 8 ≤ m → r < m → v / 2 ^ (2 * m - r - 8) % 2 ^ 8 ≡ value 8 (drop (m * q + r) (bits m s))
+two_bits m q r v s small e h g = rw e (two-bits m q r (2 * m - r - 8) s small (omega arith))
 
 -- ---- lengths that are counted without the product of length and width
 scaled : (m l : ℕ) → 8 * l ≡ m * (8 * (l / m)) + 8 * (l % m)

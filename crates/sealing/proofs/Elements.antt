@@ -1,10 +1,12 @@
 -- What a random block gives: its places, and the elements of message, pad seed and places.
-use mathlib.Core.Path.{◌≡◌, ap, ap₂, ◌∙◌}
+use mathlib.Core.Path.{◌≡◌, sym, ap, ap₂, ◌∙◌}
 use mathlib.Core.Bool.{Bool, not}
 use mathlib.Core.List.{List}
-use Prim.Native.Nat.{ℕ, ◌+◌, ◌/◌}
+use Prim.Native.Nat.{ℕ, ◌+◌, ◌/◌, ◌≤◌}
 use native.Mathlib.Omega.{arith}
 use lib.ListN.{length, take, drop, length-drop}
+use lib.Seq.{drop-drop, take-add, drop_at, take-take, length-take-le}
+use Rattle.lists.specs.Parts.{part}
 use Rattle.sets.specs.declared.Set.{Set}
 use Rattle.sets.specs.Valid.{Valid}
 use Rattle.perm.specs.Shuffle.{shuffled}
@@ -14,6 +16,15 @@ use Rattle.scheme.specs.Lists.{has, passing}
 use Rattle.scheme.specs.Padding.{padded}
 use Rattle.scheme.specs.Sealing.{triple_elements, error_values, block_places, fits}
 use Rattle.sealing.specs.Steps.{Drawn}
+
+-- a part is a head and a tail
+pub part-tail : (a k t : ℕ) (l : List ℕ) → a + k ≤ length l → part (a + k) t l ≡ drop k (part a (k + t) l)
+part-tail a k t l h =
+    let g : k ≤ length (drop a l) = rw length-drop (omega arith) in
+    sym (ap (drop k) (take-add k t (drop a l)) ∙ drop_at (take k (drop a l)) (take t (drop k (drop a l))) k (length-take-le k (drop a l) g) ∙ ap (take t) (drop-drop k a l))
+
+pub part-head : (a k t : ℕ) (l : List ℕ) → part a k l ≡ take k (part a (k + t) l)
+part-head a k t l = sym (take-take k (k + t) (drop a l) (omega arith))
 
 pub places_of : (s : Set) → Valid s → (block : List ℕ) → length block ≡ s.block → length (drop s.k3 block) / 2 ≡ s.t
 places_of s v block long = omega (arith, length-drop s.k3 block, v.block_is)
