@@ -1,4 +1,4 @@
--- What decoding answers: the code word within t places.
+-- What decoding answers (RLCE-KEM specification of September 14, 2017, section 7.14, rs_decode): the code word within t places. It is bounded-distance decoding.
 use Rattle.std.specs.Prelude.{◌≡◌, List, ℕ, ◌+◌, ◌≤◌}
 use Rattle.gf.specs.Field.{Modulus}
 use Rattle.code.specs.Words.{CodeWord, apart}

@@ -1,4 +1,4 @@
--- What the field calls answer: a number, or none where they refuse.
+-- What the field calls answer: the field's operations as partial functions of numbers, a number, or none where they refuse.
 use Rattle.std.specs.Prelude.{◌≡◌, ℕ, ◌<◌, ◌≤◌, Option, Some, None, IsSomeAnd, nat_lt, ◌==◌, if◌then◌else◌}
 use Rattle.gf.specs.Field.{◌⊕◌, size, mul, alpha, inverse, Logarithm}
 use Rattle.gf.specs.Ten.{ten}
@@ -23,7 +23,7 @@ inverse_answer a = within a (if a == 0 then None else Some (inverse ten a))
 abbrev pub power_answer : ℕ → Option ℕ
 power_answer i = within i (Some (alpha ten i))
 
--- the logarithm of an element, 0 to 1022; that of zero is refused. It is a relation, which leaves one answer to each number
+-- the discrete logarithm of an element to the base α, 0 to 1022; that of zero is refused. It is a relation, which leaves one answer to each number
 pub record LogarithmAnswer (a : ℕ) (r : Option ℕ) : Type 0 where
   pub given : 0 < a → a < size ten → IsSomeAnd r (Logarithm ten a)
   pub of_zero : a ≡ 0 → r ≡ None

@@ -1,15 +1,15 @@
--- The field of 2 ^ m elements: polynomials over the two numbers 0 and 1, modulo x ^ m + low.
--- An element is a number below 2 ^ m, whose binary digit i is the coefficient of x ^ i.
+-- The field GF(2^m) of 2 ^ m elements (RLCE-KEM specification of September 14, 2017, sections 6.1.3 and 7.1): polynomials over the two numbers 0 and 1, modulo x ^ m + low.
+-- An element is a number below 2 ^ m, whose binary digit i is the coefficient of x ^ i: its m bits, as section 6.1.3, step 6, writes α.
 -- The set's m is `width`; m is written suc k where a definition counts down.
 use Rattle.std.specs.Prelude.{ℕ, zero, suc, ◌-◌, ◌*◌, ◌/◌, ◌%◌, ◌^◌, ◌<◌, ◌≡◌}
 use Rattle.std.specs.Int.Bits.{bit_xor}
 
 infixl 65 ◌⊕◌
--- the sum: exclusive or
+-- the sum of polynomials over 0 and 1: exclusive or
 abbrev pub ◌⊕◌ : ℕ → ℕ → ℕ
 a ⊕ b = bit_xor a b
 
--- the modulus x ^ m + low, with m = suc k
+-- section 6.1.3, step 5: the polynomial π(x), here x ^ m + low, with m = suc k
 pub record Modulus : Type 0 where
   pub k : ℕ
   pub low : ℕ
@@ -50,15 +50,15 @@ unfoldable pub power : Modulus → ℕ → ℕ → ℕ
 power F a zero = 1
 power F a (suc n) = mul F a (power F a n)
 
--- the powers of α, which is x
+-- section 6.1.3, step 6: the powers of α, the root of π(x) whose m bits are 0..010, which is x
 abbrev pub alpha : Modulus → ℕ → ℕ
 alpha F i = shift F i 1
 
--- the inverse: the power 2 ^ m - 2; of 0 it is 0
+-- the inverse, by Fermat's little theorem for the field: the power 2 ^ m - 2; of 0 it is 0
 unfoldable pub inverse : Modulus → ℕ → ℕ
 inverse F a = power F a (size F - 2)
 
--- i is the logarithm of a: α to the i, below the order
+-- i is the discrete logarithm of a: α to the i, below the order
 pub record Logarithm (F : Modulus) (a i : ℕ) : Type 0 where
   pub below : i < order F
   pub is : alpha F i ≡ a

@@ -1,4 +1,4 @@
--- How far elimination has come: what the code keeps from column to column, and what its end means.
+-- How far elimination has come: what the code keeps from column to column, and what its end means: the echelon format of the RLCE-KEM specification of September 14, 2017, section 6.1.2.
 use Rattle.std.specs.Prelude.{◌≡◌, ◌≢◌, List, ℕ, ◌<◌, ◌≤◌}
 use Rattle.lists.specs.Loops.{turns}
 use Rattle.gf.specs.Field.{Modulus}
@@ -20,7 +20,7 @@ pub record Cleared (F : Modulus) (cols c from to : ℕ) (l : List ℕ) (ops : �
   pub few : k ≤ to
   pub lead : Lead cols c l'
 
--- the first c columns are those of the identity matrix
+-- the first c columns are those of the identity matrix: at c = k the echelon format [I, GE] of section 6.1.2
 pub record Reduced (F : Modulus) (rows cols c : ℕ) (l : List ℕ) : Type 0 where
   pub matrix : Matrix F rows cols l
   pub one_at : (j : ℕ) → j < c → entry cols l j j ≡ 1

@@ -1,4 +1,5 @@
--- Gaussian elimination, column by column, with its count of row operations. The order is fixed, so that the count is.
+-- Gauss-Jordan elimination, column by column, to the echelon format [I, GE] (RLCE-KEM specification of September 14, 2017, section 6.1.2, and section 6.1.3, step 26),
+-- the reduced row echelon form, with its count of row operations. The specification leaves the order open; it is fixed here, so that the count is.
 -- The pivot of column c comes to row c. A row operation is a swap, a scaling or an addition, and works on whole rows.
 use Rattle.std.specs.Prelude.{◌≡◌, Bool, not, List, ℕ, zero, suc, ◌+◌, ◌*◌, ◌-◌, ◌≤◌, eqb, ltb}
 use Rattle.lists.specs.Loops.{pick, turns, first}
@@ -15,23 +16,23 @@ pub record Work : Type 0 where
 abbrev pub usable : ℕ → ℕ → List ℕ → ℕ → Bool
 usable cols c l i = not (eqb (entry cols l i c) 0)
 
--- the first usable row from the pivot row down; rows where there is none
+-- the row of the pivot: the first usable row from the pivot row down; rows where there is none
 unfoldable pub pivot_row : ℕ → ℕ → ℕ → List ℕ → ℕ
 pivot_row rows cols c l = first (usable cols c l) (rows - c) c
 
--- a swap if it isn't there already
+-- an elementary row operation brings the pivot to row c: a swap if it isn't there already
 unfoldable pub place_pivot : ℕ → ℕ → ℕ → List ℕ → Work
 place_pivot cols p c l =
     pick (eqb p c) (record { mat = l; ops = 0 })
     (record { mat = swap_run (p * cols) (c * cols) cols l; ops = 1 })
 
--- a scaling if the pivot isn't 1
+-- an elementary row operation makes it 1: a scaling if the pivot isn't 1
 unfoldable pub scale_pivot : Modulus → ℕ → ℕ → List ℕ → Work
 scale_pivot F cols c l =
     pick (eqb (entry cols l c c) 1) (record { mat = l; ops = 0 })
     (record { mat = scale_run F (c * cols) cols (inverse F (entry cols l c c)) l; ops = 1 })
 
--- an addition to every other row with a non-zero entry in that column. Here row i: its entry x is cleared by x times row c
+-- elementary row operations clear the rest of the column: an addition to every other row with a non-zero entry in that column. Here row i: its entry x is cleared by x times row c
 unfoldable pub clear_row : Modulus → ℕ → ℕ → ℕ → List ℕ → Work
 clear_row F cols c i l =
     pick (eqb i c) (record { mat = l; ops = 0 })

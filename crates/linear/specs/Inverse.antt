@@ -1,4 +1,4 @@
--- The inverse of a square matrix. It stands in the left half of n rows of 2n; the identity matrix comes
+-- The inverse of a square matrix, as W^-1 (RLCE-KEM specification of September 14, 2017, section 6.3, step 19), by Gauss-Jordan elimination. The matrix stands in the left half of n rows of 2n; the identity matrix comes
 -- beside it, and elimination of the left half turns the right half into the inverse.
 use Rattle.std.specs.Prelude.{◌≡◌, List, ℕ, ◌+◌, ◌*◌, ◌≤◌, ◌<◌, eqb, length, set, Result, Ok, Err}
 use Rattle.lists.specs.Loops.{pick, turns}

@@ -1,4 +1,4 @@
--- The code, by its power sums, and its generator.
+-- The code, by its power sums, and its generator (RLCE-KEM specification of September 14, 2017, section 6.1.3, steps 7 and 8).
 use Rattle.std.specs.Prelude.{◌≡◌, ◌≢◌, ℕ, zero, suc, ◌-◌, ◌<◌}
 use Rattle.std.proofs.Math.Decide.{dec_lt}
 use Rattle.theory.specs.Field.{Field}
@@ -14,10 +14,11 @@ module _ (K : Field) where
 
   infixl 65 ◌⊕◌
   infixl 70 ◌⊗◌
-  -- the power sum number j of a word: the sum of c_i·X_i^j over the first n places
+  -- the power sum number j of a word, a syndrome: the sum of c_i·X_i^j over the first n places
   unfoldable pub syn : (ℕ → F) → ℕ → (ℕ → F) → ℕ → F
   syn X n c j = sum K (λ i. c i ⊗ pow K (X i) j) n
 
+  -- section 6.1.3, step 7: the roots of g(x) are α^j for j = 1..n-k, and
   -- the code is the words (c_0..c_{n-1}) whose sum of c_i·α^(ij) is 0 for j = 1..n-k; here s = n - k
   abbrev pub IsCode : (ℕ → F) → ℕ → ℕ → (ℕ → F) → Type 0
   IsCode X n s c = (j : ℕ) → j < s → syn X n c (suc j) ≡ 𝟎
@@ -44,10 +45,10 @@ module _ (K : Field) where
   unfoldable pub shifted : (ℕ → F) → ℕ → ℕ → F
   shifted g i j = pick (dec_lt j i) 𝟎 (g (j - i))
 
-  -- the generator, the product of (x - α^i) for i = 1..s
+  -- section 6.1.3, step 7: the generator g(x), the product of (x - α^i) for i = 1..s; there s = n - k
   unfoldable pub gen : F → ℕ → ℕ → F
   gen α s = product (λ i. pow K α (suc i)) s
 
-  -- the generator's matrix G0 is row shifts of the generator; the entry at row i, column j
+  -- section 6.1.3, step 8: the matrix G0 is row shifts of the generator; the entry at row i, column j
   unfoldable pub G0 : F → ℕ → ℕ → ℕ → F
   G0 α s i = shifted (gen α s) i

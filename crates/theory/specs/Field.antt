@@ -1,5 +1,5 @@
--- A field of characteristic 2 (addition is exclusive or) with a decidable zero. All of this crate stands over
--- such a record.
+-- A field of characteristic 2 (addition is exclusive or), as GF(2^m) is (RLCE-KEM specification of September 14, 2017, section 7.1), with a decidable zero. All of this
+-- crate stands over such a record.
 use Rattle.std.specs.Prelude.{◌≡◌, ◌≢◌}
 
 pub record Field : Type 1 where

@@ -1,4 +1,5 @@
--- Matrices: functions from a row's number to the row, looked at below r rows and m columns. Row operations and what they are judged by.
+-- Matrices: functions from a row's number to the row, looked at below r rows and m columns. Elementary row operations and what they
+-- are judged by, up to the echelon format of the RLCE-KEM specification of September 14, 2017, section 6.1.2.
 use Rattle.std.specs.Prelude.{◌≡◌, ◌≢◌, ℕ, ◌≤◌, ◌<◌}
 use Rattle.std.proofs.Math.Decide.{dec_lt}
 use Rattle.theory.specs.Field.{Field}
@@ -60,7 +61,7 @@ module _ (K : Field) where
   abbrev pub Inj : (Row → Type 0) → ℕ → Mat → Type 0
   Inj P r M = (x : Row) → P (comb x M r) → (i : ℕ) → i < r → x i ≡ 𝟎
 
-  -- the first j columns are those of the unit matrix
+  -- the first j columns are those of the unit matrix: at j = k the echelon format [I, GE] of section 6.1.2
   pub record UnitBelow (r j : ℕ) (M : Mat) : Type 0 where
     pub one_at : (c : ℕ) → c < j → M c c ≡ 𝟏
     pub zero_off : (i c : ℕ) → i < r → c < j → i ≢ c → M i c ≡ 𝟎

@@ -1,4 +1,4 @@
--- Words: functions from places to elements, looked at below a length. Sums, powers, weight, distinct places.
+-- Words: functions from places to elements, looked at below a length. Sums, powers, weight (RLCE-KEM specification of September 14, 2017, section 6.3, step 21), distinct places.
 use Rattle.std.specs.Prelude.{◌≡◌, ◌≢◌, ℕ, zero, suc, ◌+◌, ◌<◌}
 use Rattle.std.proofs.Math.Decide.{ℕ_discrete}
 use Rattle.theory.specs.Field.{Field}
@@ -52,7 +52,7 @@ module _ (K : Field) where
   unfoldable pub nz : F → ℕ
   nz a = pick (dec a) 0 1
 
-  -- the weight: how many of the first n places are not zero
+  -- the Hamming weight, as in section 6.3, step 21: how many of the first n places are not zero
   unfoldable pub wt : (ℕ → F) → ℕ → ℕ
   wt f zero = 0
   wt f (suc n) = wt f n + nz (f n)
