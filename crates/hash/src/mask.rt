@@ -61,16 +61,25 @@ pub fn fill_mask(h: &Hasher, s: &mut [u8])
     xor_mask(h, s);
 }
 
-/// Lays the mask of the seed that the parts are, one after the other, over s.
-pub fn xor_mask_of(seed: &[&[u8]], s: &mut [u8])
-    requires { length (concat (map (λ part. part.now) seed.now)) < 2 ^ 63 }
-    ensures { s.new ≡ xored s.old (mgf (concat (map (λ part. part.now) seed.now)) (length s.old)) }
+// The hasher that was given the parts, one after the other.
+#[inline(always)]
+fn of_parts(seed: &[&[u8]]) -> Hasher
+    requires { length (concat (map (λ part. part.now) seed.now)) < 2 ^ 64 }
+    ensures { Holds result (concat (map (λ part. part.now) seed.now)) }
 {
     let mut hasher = Hasher::new();
     for part in seed {
         hasher.update(part);
     }
-    xor_mask(&hasher, s);
+    hasher
+}
+
+/// Lays the mask of the seed that the parts are, one after the other, over s.
+pub fn xor_mask_of(seed: &[&[u8]], s: &mut [u8])
+    requires { length (concat (map (λ part. part.now) seed.now)) < 2 ^ 63 }
+    ensures { s.new ≡ xored s.old (mgf (concat (map (λ part. part.now) seed.now)) (length s.old)) }
+{
+    xor_mask(&of_parts(seed), s);
 }
 
 /// The mask of the seed that the parts are, one after the other, into s.
@@ -78,6 +87,5 @@ pub fn fill_mask_of(seed: &[&[u8]], s: &mut [u8])
     requires { length (concat (map (λ part. part.now) seed.now)) < 2 ^ 63 }
     ensures { s.new ≡ mgf (concat (map (λ part. part.now) seed.now)) (length s.old) }
 {
-    s.fill(0);
-    xor_mask_of(seed, s);
+    fill_mask(&of_parts(seed), s);
 }

@@ -1,7 +1,5 @@
--- A mask laid over zeros is the mask.
-use Rattle.std.proofs.Common.{length}
-use Rattle.hash.proofs.Masks.{filled}
+-- The hasher holds the parts, and the mask is theirs.
 use Rattle.hash.proofs.mask.fill_mask_of.Goals as goal
 
 pub returns : goal.returns
-returns c = filled (length c.args.s.now) _ (c.fill.ensures.after (λ y e. e)) c.xor_mask_of.ensures
+returns c = c.fill_mask.ensures _ c.of_parts.ensures
