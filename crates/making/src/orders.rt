@@ -18,7 +18,10 @@ fn mixed_below(order: &[u16], d: usize, k: usize) -> usize
     requires { k ≤ length order.now }
     ensures { result ≡ count_by (λ x. nat_le d x) (take k order.now) }
 {
-    order[..k].iter().filter(|x| d <= usize::from(**x)).count()
+    order[..k]
+        .iter()
+        .map(|x| usize::from(d <= usize::from(*x)))
+        .sum()
 }
 
 /// The second permutation from the first window that mixes at most u0 of the first k columns, and that window's number.
