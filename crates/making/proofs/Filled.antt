@@ -25,7 +25,7 @@ use Rattle.making.specs.Filling.{scaled, permuted, mixed}
 use Rattle.making.proofs.Lists.{take_put}
 
 -- ---- the generator matrix
-length-generator : (F : Modulus) (n : ℕ) → length (generator F n) ≡ suc n
+pub length-generator : (F : Modulus) (n : ℕ) → length (generator F n) ≡ suc n
 unfolding generator with_root
 length-generator F zero = refl
 length-generator F (suc n) = length-tab (suc (length (generator F n))) _ ∙ ap suc (length-generator F n)

@@ -21,7 +21,7 @@ unfolding inverses
 length-inverses F [] = refl
 length-inverses F (x ∷ l) = ap suc (length-inverses F l)
 
-inverses-at : (F : Modulus) (l : List ℕ) (i : ℕ) → i < length l → get_or (inverses F l) i 0 ≡ inverse F (get_or l i 0)
+pub inverses-at : (F : Modulus) (l : List ℕ) (i : ℕ) → i < length l → get_or (inverses F l) i 0 ≡ inverse F (get_or l i 0)
 unfolding inverses
 inverses-at F [] i h = absurd (omega arith)
 inverses-at F (x ∷ l) zero h = refl

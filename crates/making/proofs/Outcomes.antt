@@ -61,7 +61,7 @@ module _ (s : Set) (random : List ℕ) where
       unfolding setup with_blocks
       no_window h = rw (le-ltb (length (usable s random)) s.n enough, is, le-ltb (window s random) 5 (omega arith))
 
-      past-window : window s random < 5 → setup s random ≡ reduced_pair s random A (window s random)
+      pub past-window : window s random < 5 → setup s random ≡ reduced_pair s random A (window s random)
       unfolding setup with_blocks
       past-window h = rw (le-ltb (length (usable s random)) s.n enough, is, lt-ltb (window s random) 5 h)
 
@@ -82,10 +82,10 @@ module _ (s : Set) (random : List ℕ) where
             to-pair ∙ rw (← second, le-ltb (reduction s random A P2).cols s.k h, e, q, eg, ← ev, ← e1, ← em)
 
 -- ---- the run of elements
-small-as : (m n : ℕ) (x : List ℕ) → m ≡ n → Small m x → Small n x
+pub small-as : (m n : ℕ) (x : List ℕ) → m ≡ n → Small m x → Small n x
 small-as m n x e h i = rw (← e) (h i)
 
-append-small : (w : ℕ) (a b : List ℕ) → Small w a → Small w b → Small w (a ++ b)
+pub append-small : (w : ℕ) (a b : List ℕ) → Small w a → Small w b → Small w (a ++ b)
 append-small w a b f g i = go (dec_lt i (length a))
   where
     go : Dec (i < length a) → get_or (a ++ b) i 0 < 2 ^ w
@@ -94,7 +94,7 @@ append-small w a b f g i = go (dec_lt i (length a))
         let e : i ≡ length a + (i - length a) = omega arith in
         rw (ap (λ (n : ℕ). get_or (a ++ b) n 0) e, get_or-append-add) (g (i - length a))
 
-columns-small : (A : List ℕ) → Small (width ten) (inverse_columns ten A)
+pub columns-small : (A : List ℕ) → Small (width ten) (inverse_columns ten A)
 unfolding inverse_columns
 columns-small [] i = omega arith
 columns-small (a ∷ []) i = omega arith
@@ -104,13 +104,13 @@ columns-small (a ∷ b ∷ c ∷ d ∷ l) zero = mul-lt ten _ _
 columns-small (a ∷ b ∷ c ∷ d ∷ l) (suc zero) = mul-lt ten _ _
 columns-small (a ∷ b ∷ c ∷ d ∷ l) (suc (suc i)) = columns-small l i
 
-inverses-small : (l : List ℕ) → Small (width ten) (inverses ten l)
+pub inverses-small : (l : List ℕ) → Small (width ten) (inverses ten l)
 unfolding inverses
 inverses-small [] i = omega arith
 inverses-small (x ∷ l) zero = inverse-lt ten x
 inverses-small (x ∷ l) (suc i) = inverses-small l i
 
-length-columns : (A : List ℕ) (w : ℕ) → length A ≡ 4 * w → length (inverse_columns ten A) ≡ 2 * w
+pub length-columns : (A : List ℕ) (w : ℕ) → length A ≡ 4 * w → length (inverse_columns ten A) ≡ 2 * w
 unfolding inverse_columns
 length-columns [] w h = omega arith
 length-columns (a ∷ []) w h = absurd (omega arith)
@@ -119,7 +119,7 @@ length-columns (a ∷ b ∷ c ∷ []) w h = absurd (omega arith)
 length-columns (a ∷ b ∷ c ∷ d ∷ l) zero h = absurd (omega arith)
 length-columns (a ∷ b ∷ c ∷ d ∷ l) (suc w) h = omega (arith, length-columns l w (omega arith))
 
-length-right : (s : Set) (l : List ℕ) → length (right_part s l) ≡ key_elements s
+pub length-right : (s : Set) (l : List ℕ) → length (right_part s l) ≡ key_elements s
 unfolding right_part listed
 length-right s l = length-tab (key_elements s) _
 

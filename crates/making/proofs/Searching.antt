@@ -20,11 +20,11 @@ blocks-short w (a ∷ b ∷ []) h = refl
 blocks-short w (a ∷ b ∷ c ∷ []) h = refl
 blocks-short w (a ∷ b ∷ c ∷ d ∷ l) h = absurd (omega arith)
 
-blocks-skip : (w a b c d : ℕ) (l : List ℕ) → det ten a b c d ≡ 0 → blocks ten (suc w) (a ∷ b ∷ c ∷ d ∷ l) ≡ blocks ten (suc w) (b ∷ c ∷ d ∷ l)
+pub blocks-skip : (w a b c d : ℕ) (l : List ℕ) → det ten a b c d ≡ 0 → blocks ten (suc w) (a ∷ b ∷ c ∷ d ∷ l) ≡ blocks ten (suc w) (b ∷ c ∷ d ∷ l)
 unfolding blocks
 blocks-skip w a b c d l e = rw (eq-eqb (det ten a b c d) 0 e)
 
-blocks-take : (w a b c d : ℕ) (l : List ℕ) → (det ten a b c d ≡ 0 → ⊥) → blocks ten (suc w) (a ∷ b ∷ c ∷ d ∷ l) ≡ with_block a b c d (blocks ten w l)
+pub blocks-take : (w a b c d : ℕ) (l : List ℕ) → (det ten a b c d ≡ 0 → ⊥) → blocks ten (suc w) (a ∷ b ∷ c ∷ d ∷ l) ≡ with_block a b c d (blocks ten w l)
 unfolding blocks
 blocks-take w a b c d l e = rw (ne_eqb (det ten a b c d) 0 e)
 
