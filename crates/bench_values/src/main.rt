@@ -145,14 +145,10 @@ fn print_answer(expected: u8, answer: Result<usize, Refusal>) {
     vectors::text(b": expected ");
     io::print_decimal(STDOUT, u64::from(expected));
     vectors::text(b", got ");
-    match answer {
-        Ok(count) => {
-            vectors::text(b"0 count ");
-            io::print_decimal(STDOUT, count as u64);
-        }
-        Err(refusal) => {
-            io::print_decimal(STDOUT, u64::from(u8::from(refusal)));
-        }
+    io::print_decimal(STDOUT, files::number(answer));
+    if let Ok(count) = answer {
+        vectors::text(b" count ");
+        io::print_decimal(STDOUT, count as u64);
     }
 }
 

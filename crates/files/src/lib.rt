@@ -2,7 +2,7 @@
 #![tactic(auto)]
 
 ghost use Rattle.std.specs.Prelude.{◌≡◌, ◌≤◌, length, IfOk, IfSome};
-ghost use Rattle.scheme.specs.Answers.{number_of};
+ghost use Rattle.files.specs.Answers.{number_of_answer};
 
 use messages::Words;
 use scheme::Refusal;
@@ -137,17 +137,20 @@ pub fn write(rt: &(impl Env + Files + Eprint), i: usize, bytes: &[u8], secret: b
     }
 }
 
-/// The number of a refusal, which stands after `refused`.
-pub fn number(refusal: Refusal) -> u64
-    ensures { result ≡ number_of refusal }
+/// The number of an answer, which stands after `refused`: 0 for one that is done.
+pub fn number<T: Copy>(answer: Result<T, Refusal>) -> u64
+    ensures { result ≡ number_of_answer answer }
 {
-    u64::from(u8::from(refusal))
+    match answer {
+        Ok(_) => 0,
+        Err(refusal) => u64::from(u8::from(refusal)),
+    }
 }
 
-/// Prints `refused` and the refusal's number.
-pub fn print_refused(refusal: Refusal) {
+/// Prints `refused` and the answer's number.
+pub fn print_refused<T: Copy>(answer: Result<T, Refusal>) {
     io::write_all(STDOUT, b"refused ");
-    io::print_decimal(STDOUT, number(refusal));
+    io::print_decimal(STDOUT, number(answer));
     io::write_all(STDOUT, b"\n");
 }
 

@@ -8,13 +8,14 @@ use std::rt::Runtime;
 fn make(rt: &impl Runtime, key: &[u8], cipher: &[u8]) {
     let mut message = [0u8; 30];
     let mut work = [0u16; 7200];
-    match calls::disclosing::open(key, cipher, &mut message, &mut work) {
+    let answer = calls::disclosing::open(key, cipher, &mut message, &mut work);
+    match answer {
         Ok(()) => {
             if files::write(rt, 3, &message, true) {
                 files::print_done();
             }
         }
-        Err(refusal) => files::print_refused(refusal),
+        Err(_) => files::print_refused(answer),
     }
     message.fill(0);
 }
@@ -24,6 +25,7 @@ fn with_key(rt: &impl Runtime, key: &[u8]) {
     if let Some(n) = files::read(rt, 2, &mut cipher) {
         make(rt, key, &cipher[..n]);
     }
+    cipher.fill(0);
 }
 
 // One byte of room more shows a file that is too long.

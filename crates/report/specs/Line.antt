@@ -1,5 +1,5 @@
 -- The rule of the program `sizes`: a line names a set if it is exactly two lower-case hex digits of a known set byte.
-use Rattle.std.specs.Prelude.{◌≡◌, List, [], ◌∷◌, ℕ, ◌+◌, ◌-◌, ◌*◌, ◌<◌, nat_le, if◌then◌else◌, length, Option, Some, None}
+use Rattle.std.specs.Prelude.{◌≡◌, List, [], ◌∷◌, ℕ, ◌+◌, ◌-◌, ◌*◌, ◌<◌, nat_le, if◌then◌else◌, length, get_or, Option, Some, None}
 use Rattle.sets.specs.declared.Set.{Set}
 use Rattle.sets.specs.Table.{set_of}
 use Rattle.report.specs.declared.Line.{Line}
@@ -23,9 +23,9 @@ set_of_line (a ∷ []) = None
 set_of_line (a ∷ b ∷ []) = set_of_digits (hex_digit a) (hex_digit b)
 set_of_line (a ∷ b ∷ c ∷ l) = None
 
--- what the program keeps of the line l: all of it up to two bytes, and of a longer one that it is longer
+-- what the program keeps of the line l: all of it up to two bytes, and of a longer one the first two and that it is longer
 abbrev pub Keeps : Line → List ℕ → Type 0
 Keeps Empty l = l ≡ []
 Keeps (One a) l = l ≡ a ∷ []
 Keeps (Two a b) l = l ≡ a ∷ b ∷ []
-Keeps Long l = 2 < length l
+Keeps (Long a b) l = (2 < length l) × (get_or l 0 0 ≡ a) × (get_or l 1 0 ≡ b)

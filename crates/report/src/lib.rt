@@ -25,13 +25,13 @@ fn hex_digit(c: u8) -> Option<u8>
     }
 }
 
-/// What is kept of a line while it is read.
+/// What is kept of a line while it is read: its first two bytes, and whether it has more.
 #[derive(Clone, Copy)]
 pub enum Line {
     Empty,
     One(u8),
     Two(u8, u8),
-    Long,
+    Long(u8, u8),
 }
 
 impl Line {
@@ -48,8 +48,8 @@ impl Line {
         match self {
             Line::Empty => Line::One(b),
             Line::One(a) => Line::Two(a, b),
-            Line::Two(_, _) => Line::Long,
-            Line::Long => Line::Long,
+            Line::Two(first, second) => Line::Long(first, second),
+            Line::Long(first, second) => Line::Long(first, second),
         }
     }
 

@@ -10,13 +10,14 @@ use std::rt::Runtime;
 fn make(rt: &impl Runtime, key: &[u8], random: &[u8], message: &[u8]) {
     let mut cipher = [0u8; 57];
     let mut work = [0u16; 7200];
-    match calls::closing::seal(key, random, message, &mut cipher, &mut work) {
+    let answer = calls::closing::seal(key, random, message, &mut cipher, &mut work);
+    match answer {
         Ok(block) => {
             if files::write(rt, 4, &cipher, false) {
                 files::print_count(block);
             }
         }
-        Err(refusal) => files::print_refused(refusal),
+        Err(_) => files::print_refused(answer),
     }
 }
 
@@ -45,4 +46,5 @@ fn main(rt: HostRuntime) {
     if let Some(n) = files::read(&rt, 1, &mut key) {
         with_key(&rt, &key[..n]);
     }
+    key.fill(0);
 }

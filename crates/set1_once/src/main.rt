@@ -37,14 +37,10 @@ fn random_room() -> [u8; 48617]
 
 fn print_answer(name: &[u8], answer: Result<usize, Refusal>) {
     vectors::text(name);
-    match answer {
-        Ok(count) => {
-            vectors::text(b"0 count ");
-            io::print_decimal(STDOUT, count as u64);
-        }
-        Err(refusal) => {
-            io::print_decimal(STDOUT, u64::from(u8::from(refusal)));
-        }
+    io::print_decimal(STDOUT, files::number(answer));
+    if let Ok(count) = answer {
+        vectors::text(b" count ");
+        io::print_decimal(STDOUT, count as u64);
     }
     vectors::text(b"\n");
 }

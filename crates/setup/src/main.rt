@@ -10,14 +10,15 @@ fn make(rt: &impl Runtime, random: &[u8]) {
     let mut public = [0u8; 626];
     let mut private = [0u8; 859];
     let mut work = [0u16; 7200];
-    match calls::founding::setup(0x16, random, &mut public, &mut private, &mut work) {
+    let answer = calls::founding::setup(0x16, random, &mut public, &mut private, &mut work);
+    match answer {
         // The private key comes first, so that no public key stands alone.
         Ok(count) => {
             if files::write(rt, 3, &private, true) && files::write(rt, 2, &public, false) {
                 files::print_count(count);
             }
         }
-        Err(refusal) => files::print_refused(refusal),
+        Err(_) => files::print_refused(answer),
     }
     private.fill(0);
 }

@@ -1,0 +1,2 @@
+-- What the programs print of an answer.
+pub mod Answers
