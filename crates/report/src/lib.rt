@@ -7,7 +7,7 @@ ghost use Rattle.report.specs.Line.{hex_digit, set_of_line, Keeps};
 use messages::Words;
 use sets::{ParameterSet, Set};
 use std::fmt;
-use std::fmt::{InlineText, Write};
+use std::fmt::Write;
 use std::io::Read;
 
 /// The number of standard output.
@@ -84,16 +84,51 @@ impl fmt::Display for Sizes {
     }
 }
 
+/// How long the line of a set may be; each is shorter.
+const ROOM: usize = 160;
+
+/// A line in the making, in memory of its own. The library's `InlineText` does the same, and sees to it that what it cuts is text still: with
+/// it a line took a third more time.
+#[derive(Clone, Copy)]
+struct Text {
+    room: [u8; ROOM],
+    len: usize,
+}
+
+impl Text {
+    fn new() -> Text {
+        Text {
+            room: [0; ROOM],
+            len: 0,
+        }
+    }
+
+    fn bytes(&self) -> &[u8] {
+        &self.room[..self.len.min(ROOM)]
+    }
+}
+
+impl Write for Text {
+    fn write_str(&mut self, s: &str) -> fmt::Result {
+        if ROOM < self.len || ROOM - self.len < s.len() {
+            return Err(fmt::Error);
+        }
+        let end = self.len + s.len();
+        self.room[self.len..end].copy_from_slice(s.as_bytes());
+        self.len = end;
+        Ok(())
+    }
+}
+
 /// What is written for a line.
 fn answer(line: Line) {
     let Some(parameters) = line.names() else {
         io::write_all(STDOUT, b"refused 1\n");
         return;
     };
-    // The line of a set is shorter than the text may be.
-    let mut text = InlineText::<160>::new();
+    let mut text = Text::new();
     let _ = writeln!(text, "{}", Sizes(parameters.set));
-    io::write_all(STDOUT, text.as_str().as_bytes());
+    io::write_all(STDOUT, text.bytes());
 }
 
 /// One byte more of the input: a line feed ends the line.
