@@ -2,7 +2,7 @@
 //! that comes in parts.
 //!
 //! That a seed leaves room for a counter is a clause of the masks alone: a hasher takes more, so it is no fact of its type.
-ghost use Rattle.std.specs.Prelude.{◌≡◌, ℕ, ◌+◌, ◌^◌, ◌<◌, ◌≤◌, List, ◌++◌, length, map};
+ghost use Rattle.std.specs.Prelude.{◌≡◌, ℕ, ◌+◌, ◌^◌, ◌<◌, ◌≤◌, List, [], ◌++◌, length, map};
 ghost use Rattle.std.specs.List.{concat};
 ghost use Rattle.hash.specs.Sha.{sha512};
 ghost use Rattle.hash.specs.Mask.{bytes4, mgf, xored};
@@ -61,17 +61,16 @@ pub fn fill_mask(h: &Hasher, s: &mut [u8])
     xor_mask(h, s);
 }
 
-// The hasher that was given the parts, one after the other.
+// A hasher that was given nothing is given the parts, one after the other.
 #[inline(always)]
-fn of_parts(seed: &[&[u8]]) -> Hasher
-    requires { length (concat (map (λ part. part.now) seed.now)) < 2 ^ 64 }
-    ensures { Holds result (concat (map (λ part. part.now) seed.now)) }
+fn add_parts(hasher: &mut Hasher, seed: &[&[u8]])
+    requires empty { Holds hasher.old [] }
+    requires fits { length (concat (map (λ part. part.now) seed.now)) < 2 ^ 64 }
+    ensures { Holds hasher.new (concat (map (λ part. part.now) seed.now)) }
 {
-    let mut hasher = Hasher::new();
     for part in seed {
         hasher.update(part);
     }
-    hasher
 }
 
 /// Lays the mask of the seed that the parts are, one after the other, over s.
@@ -79,7 +78,9 @@ pub fn xor_mask_of(seed: &[&[u8]], s: &mut [u8])
     requires { length (concat (map (λ part. part.now) seed.now)) < 2 ^ 63 }
     ensures { s.new ≡ xored s.old (mgf (concat (map (λ part. part.now) seed.now)) (length s.old)) }
 {
-    xor_mask(&of_parts(seed), s);
+    let mut hasher = Hasher::new();
+    add_parts(&mut hasher, seed);
+    xor_mask(&hasher, s);
 }
 
 /// The mask of the seed that the parts are, one after the other, into s.
@@ -87,5 +88,7 @@ pub fn fill_mask_of(seed: &[&[u8]], s: &mut [u8])
     requires { length (concat (map (λ part. part.now) seed.now)) < 2 ^ 63 }
     ensures { s.new ≡ mgf (concat (map (λ part. part.now) seed.now)) (length s.old) }
 {
-    fill_mask(&of_parts(seed), s);
+    let mut hasher = Hasher::new();
+    add_parts(&mut hasher, seed);
+    fill_mask(&hasher, s);
 }

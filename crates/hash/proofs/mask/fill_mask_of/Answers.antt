@@ -2,4 +2,4 @@
 use Rattle.hash.proofs.mask.fill_mask_of.Goals as goal
 
 pub returns : goal.returns
-returns c = c.fill_mask.ensures _ c.of_parts.ensures
+returns c = c.fill_mask.ensures _ c.add_parts.ensures

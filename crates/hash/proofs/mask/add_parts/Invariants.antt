@@ -2,7 +2,7 @@
 use Rattle.std.proofs.Common.{take, map}
 use Rattle.std.specs.List.{concat}
 use Rattle.hash.specs.Held.{Holds}
-use Rattle.hash.proofs.mask.of_parts.Given as goal
+use Rattle.hash.proofs.mask.add_parts.Given as goal
 
 abbrev pub invariant-loop-part : goal.invariant-loop-part
 invariant-loop-part l = Holds l.hasher (concat (map (λ part. part.now) (take l.part-index l.seed)))

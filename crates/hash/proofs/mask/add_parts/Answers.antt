@@ -1,6 +1,6 @@
 use Rattle.std.proofs.Common.{Bor, List, [], ℕ, arith}
 use Rattle.hash.proofs.Masks.{joined, joined_fits}
-use Rattle.hash.proofs.mask.of_parts.Goals as goal
+use Rattle.hash.proofs.mask.add_parts.Goals as goal
 
 pub update-requires : goal.update-requires
 update-requires c =
