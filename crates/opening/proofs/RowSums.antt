@@ -11,7 +11,7 @@ use Rattle.lists.specs.Loops.{pick}
 use Rattle.theory.specs.Word.{sum, unit}
 use Rattle.theory.proofs.Place.{at-or}
 use Rattle.theory.proofs.Sum.{unit-same, unit-other}
-use Rattle.gf.specs.Field.{◌⊕◌, mul, size}
+use Rattle.gf.specs.Field.{Modulus, ◌⊕◌, mul, size}
 use Rattle.gf.specs.Ten.{ten}
 use Rattle.gf.proofs.Xor.{add-lt}
 use Rattle.gf.proofs.Ring.{mul-lt}
@@ -31,6 +31,20 @@ pub row_sum-lt : (x : ℕ → ℕ) (k : ℕ) (M : ℕ → ℕ) → row_sum ten x
 unfolding row_sum
 row_sum-lt x zero M = omega arith
 row_sum-lt x (suc k) M = add-lt 10 _ _ (row_sum-lt x k M) (mul-lt ten (x k) (M k))
+
+-- sums of equal terms are equal
+pub row_sum-ext : (F : Modulus) (x y : ℕ → ℕ) (k : ℕ) (M N : ℕ → ℕ) → ((i : ℕ) → i < k → x i ≡ y i) → ((i : ℕ) → i < k → M i ≡ N i) → row_sum F x k M ≡ row_sum F y k N
+unfolding row_sum
+row_sum-ext F x y zero M N e f = refl
+row_sum-ext F x y (suc k) M N e f =
+    ap₂ (λ (a b : ℕ). a ⊕ b) (row_sum-ext F x y k M N (λ i h. e i (omega arith)) (λ i h. f i (omega arith)))
+    (ap₂ (mul F) (e k (omega arith)) (f k (omega arith)))
+
+-- a combination of rows is a sum of rows
+pub combined-rows : (x : List ℕ) (k : ℕ) (M : ℕ → ℕ) → combined ten x k M ≡ row_sum ten (λ i. get_or x i 0) k M
+unfolding combined row_sum
+combined-rows x zero M = refl
+combined-rows x (suc k) M = rw (combined-rows x k M)
 
 pub combined-ext : (x y : List ℕ) (k : ℕ) (M N : ℕ → ℕ) → ((i : ℕ) → i < k → get_or x i 0 ≡ get_or y i 0) → ((i : ℕ) → i < k → M i ≡ N i) → combined ten x k M ≡ combined ten y k N
 unfolding combined

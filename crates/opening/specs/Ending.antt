@@ -43,7 +43,8 @@ refusal_of Malformed = R.Malformed
 refusal_of Singular = R.Singular
 refusal_of NotOpened = R.NotOpened
 
--- what `open` is given
+-- enough for a call of `open` with a work area of the set's length; `open` itself asks for no more of it than room for `open_room s` numbers, and
+-- a `PrivateKey` is known to be what `of_key` says
 pub record OpenGiven (s : Set) (key cipher message work : List ℕ) : Type 0 where
   pub of_key : KeyGiven s key
   pub cipher_long : length cipher ≡ s.cipher

@@ -91,6 +91,6 @@ pub fn open(
 {
     let Set { n, k, w, .. } = key.parameters.set;
     let (front, back) = work.split_at_mut(k * (n + w - k) + (n + w) + n + k + k + k * (k + k));
-    let prepared = prepare(key, front, back)?;
+    let prepared = prepare(key, front)?;
     open_prepared(&prepared, cipher, message, back)
 }

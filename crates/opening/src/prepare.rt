@@ -42,34 +42,26 @@ pub struct PreparedKey<'a, 'w> {
     pub ghost inverse: { HoldsInverse key.parameters.set (held key) (length mixed.now) matrix.now },
 }
 
-/// The inverse of the list of numbers in the bytes, which is read to `list`.
-pub(crate) fn invert_list(
-    bytes: &[u8],
-    list: &mut [u16],
-    inverse: &mut [u16],
-) -> Result<(), Failure>
-    requires list { length list.old ≡ length bytes.now / 2 }
+/// The inverse of the list of numbers in the bytes.
+pub(crate) fn invert_list(bytes: &[u8], inverse: &mut [u16]) -> Result<(), Failure>
     requires inverse { length inverse.old ≡ length bytes.now / 2 }
     ensures permutation { OnOk result (Perm (numbers16 bytes.now)) }
     ensures inverse { OnOk result (inverse.new ≡ inverse_of (numbers16 bytes.now)) }
     ensures refused { IfErr result (λ e. (e ≡ Failure.Malformed) × (Perm (numbers16 bytes.now) → ⊥)) }
 {
-    bits::get_numbers(bytes, list);
-    if perm::invert(list, inverse) {
+    if perm::invert_numbers(bytes, inverse) {
         Ok(())
     } else {
         Err(Failure::Malformed)
     }
 }
 
-/// P1 and P2, if the key's lists are permutations. There is room for either list in `list`.
+/// P1 and P2, if the key's lists are permutations.
 pub(crate) fn invert_lists(
     key: &PrivateKey,
-    list: &mut [u16],
     first: &mut [u16],
     second: &mut [u16],
 ) -> Result<(), Failure>
-    requires list { key.now.parameters.set.n + key.now.parameters.set.w ≤ length list.old }
     requires first { length first.old ≡ key.now.parameters.set.n }
     requires second { length second.old ≡ key.now.parameters.set.n + key.now.parameters.set.w }
     ensures permutations { OnOk result (Perm (held key.now).q1 × Perm (held key.now).q2) }
@@ -77,19 +69,12 @@ pub(crate) fn invert_lists(
     ensures second { OnOk result (second.new ≡ inverse_of (held key.now).q2) }
     ensures refused { IfErr result (KeyFails key.now.parameters.set key.now.bytes.now) }
 {
-    let Set { n, w, .. } = key.parameters.set;
-    invert_list(key.second_list(), &mut list[..n + w], second)?;
-    invert_list(key.first_list(), &mut list[..n], first)
+    invert_list(key.second_list(), second)?;
+    invert_list(key.first_list(), first)
 }
 
 /// The same, if the key is well formed.
-pub(crate) fn judge(
-    key: &PrivateKey,
-    list: &mut [u16],
-    first: &mut [u16],
-    second: &mut [u16],
-) -> Result<(), Failure>
-    requires list { key.now.parameters.set.n + key.now.parameters.set.w ≤ length list.old }
+pub(crate) fn judge(key: &PrivateKey, first: &mut [u16], second: &mut [u16]) -> Result<(), Failure>
     requires first { length first.old ≡ key.now.parameters.set.n }
     requires second { length second.old ≡ key.now.parameters.set.n + key.now.parameters.set.w }
     ensures formed { OnOk result (WellFormed key.now.parameters.set key.now.bytes.now) }
@@ -97,7 +82,7 @@ pub(crate) fn judge(
     ensures second { OnOk result (second.new ≡ inverse_of (held key.now).q2) }
     ensures refused { IfErr result (KeyFails key.now.parameters.set key.now.bytes.now) }
 {
-    invert_lists(key, list, first, second)?;
+    invert_lists(key, first, second)?;
     if !key.none_zero() {
         return Err(Failure::Malformed);
     }
@@ -107,15 +92,13 @@ pub(crate) fn judge(
     Ok(())
 }
 
-/// Prepares the key in the work area, if it is well formed and W regular. There is room for either of its lists in `list`.
+/// Prepares the key in the work area, if it is well formed and W regular.
 #[tactic(auto, using(crate::proofs::Permuting::checked_of, crate::proofs::Matrices::square, crate::proofs::Preparing::as_many_of, crate::proofs::Keyed::bounds_of))]
 pub(crate) fn prepare<'a, 'w>(
     key: &PrivateKey<'a>,
     work: &'w mut [u16],
-    list: &mut [u16],
 ) -> Result<PreparedKey<'a, 'w>, Failure>
     requires room { key_room key.now.parameters.set ≤ length work.old }
-    requires list { key.now.parameters.set.n + key.now.parameters.set.w ≤ length list.old }
     ensures set { IfOk result (λ prepared. prepared.key.parameters.set ≡ key.now.parameters.set) }
     ensures bytes { IfOk result (λ prepared. prepared.key.bytes.now ≡ key.now.bytes.now) }
     ensures refused { IfErr result (KeyFails key.now.parameters.set key.now.bytes.now) }
@@ -124,7 +107,7 @@ pub(crate) fn prepare<'a, 'w>(
     let (ge, rest) = work.split_at_mut(k * (n + w - k));
     let (second, rest) = rest.split_at_mut(n + w);
     let (first, rest) = rest.split_at_mut(n);
-    judge(key, list, first, second)?;
+    judge(key, first, second)?;
     key.unpack_ge(ge);
     let (mixed, rest) = rest.split_at_mut(k);
     let u = list_mixed(key, second, mixed);

@@ -5,6 +5,7 @@ use mathlib.Core.List.{List}
 use Prim.Native.Nat.{ℕ, ◌<◌}
 use lib.ListN.{length, get_or}
 use Rattle.bits.specs.Bits.{Decided}
+use Rattle.bits.proofs.Sixteen.{length-numbers16, numbers16-at}
 use Rattle.perm.specs.Perm.{Places, Inverse, Perm, Undoes, Inverts, inverted}
 use Rattle.perm.proofs.Permutations.{entries-distinct, entries-low, undoes-inverse}
 use Rattle.perm.proofs.Placing.{placed, length-placed, Last, last-placed}
@@ -37,3 +38,6 @@ pub ruleset inverting = (inverted-inverse, entries-low)
 -- a list whose entries are places and distinct is a permutation
 pub distinct-perm : (p : List ℕ) → Places p → ((i j : ℕ) → i < length p → j < length p → get_or p i 0 ≡ get_or p j 0 → i ≡ j) → Perm p
 distinct-perm p low one = (inverted p p, undoes-inverse p (inverted p p) (length-inverted p p) low (distinct-undoes p p refl low one))
+
+-- for `using` at a function that reads a list in a byte string
+pub ruleset reading = (length-numbers16, numbers16-at)

@@ -5,13 +5,14 @@
 // That a list has at most 65536 entries stays a clause: the lists are lent slices, and a type would be made and taken apart at each call.
 #![tactic(auto)]
 
+mod entries;
 mod inverse;
 mod swaps;
 mod window;
 
 ghost use Rattle.perm.specs.Answer.{Shuffled, Inverted};
 
-pub use inverse::{invert, is_permutation};
+pub use inverse::{invert, invert_numbers, is_permutation};
 use lists::Refused;
 pub use swaps::shuffle;
 

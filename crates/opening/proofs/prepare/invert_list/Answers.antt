@@ -1,5 +1,7 @@
+use Rattle.std.proofs.Common.{refl}
 use Rattle.opening.proofs.Permuting.{inverse_found}
 use Rattle.opening.proofs.prepare.invert_list.Goals as goal
 
-pub returns-then-invert-clause-inverse : goal.returns-then-invert-clause-inverse
-returns-then-invert-clause-inverse c = inverse_found _ c.invert.new.q _ c.invert.result c.invert.ensures c.if-invert.true c.get_numbers.ensures
+pub returns-then-invert_numbers-clause-inverse : goal.returns-then-invert_numbers-clause-inverse
+returns-then-invert_numbers-clause-inverse c =
+    inverse_found _ c.invert_numbers.new.q _ c.invert_numbers.result c.invert_numbers.ensures c.if-invert_numbers.true refl

@@ -4,4 +4,4 @@ use Rattle.lists.specs.Loops.{turns}
 use Rattle.perm.proofs.inverse.write.Given as goal
 
 abbrev pub invariant-loop-i : goal.invariant-loop-i
-invariant-loop-i l = l.q ≡ turns (λ k r. set r (get_or l.p k 0) k) l.i l.fn.q
+invariant-loop-i g l = l.q ≡ turns (λ k r. set r (get_or (g.P.Entries.list l.p) k 0) k) l.i l.fn.q
