@@ -12,6 +12,12 @@ use crate::stack::cleared;
 use scheme::Refusal;
 use sets::ParameterSet;
 
+/// What sealing may leave on the stack: frames of 2700 bytes, and 5600 where the C library is bound at its first call, which saves registers.
+const SEAL_DEPTH: usize = 6656;
+
+/// The same of wrapping: 5100 bytes, and 7200.
+const WRAP_DEPTH: usize = 8704;
+
 /// Whether the lengths are those of the set, and the random bytes from 1 to 16 blocks.
 fn right_lengths(
     parameters: ParameterSet,
@@ -108,7 +114,7 @@ pub fn seal(
     if message.len() != s.k1 {
         return Err(Refusal::WrongLength);
     }
-    cleared(seal_message(parameters, key, random, message, cipher, work))
+    cleared::<usize, SEAL_DEPTH>(seal_message(parameters, key, random, message, cipher, work))
 }
 
 /// Writes the ciphertext of a secret of 1 to k1 bytes, which zero bytes fill up to k1, as `seal` makes it (RLCE-KEM specification of
@@ -138,5 +144,5 @@ pub fn wrap(
     if !secret_fits(s, secret.len()) {
         return Err(Refusal::WrongSecret);
     }
-    cleared(wrap_secret(parameters, key, random, secret, cipher, work))
+    cleared::<usize, WRAP_DEPTH>(wrap_secret(parameters, key, random, secret, cipher, work))
 }

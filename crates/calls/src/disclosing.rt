@@ -10,6 +10,12 @@ use opening::key::PrivateKey;
 use scheme::Refusal;
 use sets::Set;
 
+/// What opening may leave on the stack: frames of 4700 bytes, and 7600 where the C library is bound at its first call, which saves registers.
+const OPEN_DEPTH: usize = 8704;
+
+/// The same of unwrapping: 6800 bytes, and 9700.
+const UNWRAP_DEPTH: usize = 10752;
+
 /// Whether the lengths are those of the set.
 fn right_lengths(s: Set, key: usize, cipher: usize, work: usize) -> bool
     ensures { result ≡ open_lengths s key cipher work }
@@ -79,7 +85,7 @@ pub fn open(key: &[u8], cipher: &[u8], message: &mut [u8], work: &mut [u16]) -> 
         parameters,
         bytes: key,
     };
-    cleared(open_message(&key, cipher, message, work))
+    cleared::<(), OPEN_DEPTH>(open_message(&key, cipher, message, work))
 }
 
 /// Writes the secret that was wrapped in a ciphertext: the first bytes of the message that it opens to, as many as the secret has.
@@ -100,5 +106,5 @@ pub fn unwrap(key: &[u8], cipher: &[u8], secret: &mut [u8], work: &mut [u16]) ->
         parameters,
         bytes: key,
     };
-    cleared(unwrap_secret(&key, cipher, secret, work))
+    cleared::<(), UNWRAP_DEPTH>(unwrap_secret(&key, cipher, secret, work))
 }

@@ -10,6 +10,9 @@ use crate::stack::cleared;
 use scheme::Refusal;
 use sets::{ParameterSet, Set};
 
+/// What a setup may leave on the stack: frames of 760 bytes, and 2900 where the C library is bound at its first call, which saves registers.
+const SETUP_DEPTH: usize = 3072;
+
 /// Whether the lengths are those of the set.
 fn right_lengths(s: Set, random: usize, public: usize, private: usize, work: usize) -> bool
     ensures { result ≡ setup_lengths s random public private work }
@@ -63,5 +66,5 @@ pub fn setup(
     if !right_lengths(s, random.len(), public.len(), private.len(), work.len()) {
         return Err(Refusal::WrongLength);
     }
-    cleared(make_pair(parameters, random, public, private, work))
+    cleared::<usize, SETUP_DEPTH>(make_pair(parameters, random, public, private, work))
 }

@@ -2,7 +2,10 @@
 //!
 //! The functions that handle secrets keep copies of them in their frames: rooms, schedules, saved registers. The compiler drops a wipe of a
 //! room that is not read again, so the frames themselves are overwritten once a call, and what was written is read back into the answer.
-ghost use Rattle.std.specs.Prelude.{◌≡◌, Result, length, replicate};
+//!
+//! Each call overwrites what its own work reaches, and a margin, so that it needs little more stack than its work does. The depths are measured, not
+//! proved: tests/stack-residue looks at what is left, and tries each call on a small stack.
+ghost use Rattle.std.specs.Prelude.{◌≡◌, ◌<◌, Result, length, replicate};
 
 use scheme::Refusal;
 
@@ -20,20 +23,22 @@ fn wipe(bytes: &mut [u8]) -> u8
     left
 }
 
-/// Overwrites what calls that have returned left on the stack, 16 KiB deep. None uses half as much.
+/// Overwrites what calls that have returned left on the stack, `DEPTH` bytes deep.
 #[inline(never)]
-fn burn() -> u8
+fn burn<const DEPTH: usize>() -> u8
+    requires depth { DEPTH < 65536 }
     ensures clean { result ≡ 0 }
 {
-    let mut room = [0u8; 16384];
+    let mut room = [0u8; DEPTH];
     wipe(&mut room)
 }
 
-/// The answer of a call that has returned, once the frames that it used are overwritten. That call must be `#[inline(never)]`.
-pub fn cleared<T: Copy>(answer: Result<T, Refusal>) -> Result<T, Refusal>
+/// The answer of a call that has returned, once the frames that it used are overwritten, `DEPTH` bytes deep. That call must be `#[inline(never)]`.
+pub fn cleared<T: Copy, const DEPTH: usize>(answer: Result<T, Refusal>) -> Result<T, Refusal>
+    requires depth { DEPTH < 65536 }
     ensures same { result ≡ answer }
 {
-    if burn() == 0 {
+    if burn::<DEPTH>() == 0 {
         answer
     } else {
         Err(Refusal::NotOpened)
