@@ -27,6 +27,9 @@ pub combined_more : (n : ℕ) (t : List ℕ) (a s : ℕ) → s ≡ combined n t 
 unfolding combined
 combined_more n t a s e = rw (e, add-one n)
 
+pub combined_at : (n j : ℕ) (t : List ℕ) (a s : ℕ) → j ≡ n → s ≡ combined n t a → s ⊕ (a / 2 ^ n % 2 * get_or t j 0) ≡ combined (n + 1) t a
+combined_at n j t a s q e = rw q (combined_more n t a s e)
+
 halves : (n a : ℕ) → a / 2 / 2 ^ n ≡ a / 2 ^ suc n
 halves n a = div-div-eq-div-mul a 2 (2 ^ n) ∙ ap (λ (x : ℕ). a / x) (N.mul_comm 2 (2 ^ n) ∙ sym (pow-suc 2 n))
 
