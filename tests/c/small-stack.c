@@ -14,7 +14,10 @@
 #include <unistd.h>
 #include "stanquivol.h"
 
-enum { STACK = 16384, AROUND = 65536 };
+enum { AROUND = 65536 };
+
+/* The least stack that a thread may have: 16384 bytes, more where the system says so. */
+static size_t least;
 
 static uint16_t work[STANQUIVOL_SET1_WORK_NUMBERS];
 static uint8_t public_key[STANQUIVOL_SET1_PUBLIC_BYTES], private_key[STANQUIVOL_SET1_PRIVATE_BYTES];
@@ -62,10 +65,10 @@ enum { CALLS = sizeof calls / sizeof *calls };
 static int on_thread(void *(*call)(void *)) {
     pthread_attr_t attr;
     pthread_t thread;
-    uint8_t *room = mmap(NULL, AROUND + STACK + AROUND, PROT_NONE, MAP_PRIVATE | MAP_ANONYMOUS, -1, 0);
+    uint8_t *room = mmap(NULL, AROUND + least + AROUND, PROT_NONE, MAP_PRIVATE | MAP_ANONYMOUS, -1, 0);
     said = STANQUIVOL_NOT_OPENED;
-    if (room == MAP_FAILED || mprotect(room + AROUND, STACK, PROT_READ | PROT_WRITE) || pthread_attr_init(&attr) ||
-        pthread_attr_setstack(&attr, room + AROUND, STACK) || pthread_create(&thread, &attr, call, NULL) || pthread_join(thread, NULL))
+    if (room == MAP_FAILED || mprotect(room + AROUND, least, PROT_READ | PROT_WRITE) || pthread_attr_init(&attr) ||
+        pthread_attr_setstack(&attr, room + AROUND, least) || pthread_create(&thread, &attr, call, NULL) || pthread_join(thread, NULL))
         return 1;
     return STANQUIVOL_ANSWER(said) != STANQUIVOL_DONE;
 }
@@ -86,7 +89,7 @@ static int turn(void) {
         child = fork();
         if (child == 0) _exit(on_thread(calls[i].run));
         if (child < 0 || waitpid(child, &status, 0) != child || status != 0) {
-            printf("set %d: %s fails on a stack of %d bytes\n", set == STANQUIVOL_SET1 ? 1 : 6, calls[i].name, STACK);
+            printf("set %d: %s fails on a stack of %d bytes\n", set == STANQUIVOL_SET1 ? 1 : 6, calls[i].name, (int)least);
             faults++;
         }
     }
@@ -94,7 +97,9 @@ static int turn(void) {
 }
 
 int main(void) {
+    long said_least = sysconf(_SC_THREAD_STACK_MIN);
     int faults;
+    least = said_least > 16384 ? ((size_t)said_least + 4095) / 4096 * 4096 : 16384;
     set = STANQUIVOL_SET6;
     n_public = STANQUIVOL_SET6_PUBLIC_BYTES;
     n_private = STANQUIVOL_SET6_PRIVATE_BYTES;
@@ -114,6 +119,6 @@ int main(void) {
     n_work = STANQUIVOL_SET1_WORK_NUMBERS;
     faults += turn();
     if (faults) return 1;
-    printf("each call answers on %d bytes\n", STACK);
+    printf("each call answers on %d bytes\n", (int)least);
     return 0;
 }
