@@ -10,7 +10,7 @@
  *
  * Rules for all calls
  *
- * Every function takes any input and always returns. It keeps no state, allocates nothing, takes at most 11 KiB of stack,
+ * Every function takes any input and always returns. It keeps no state, allocates nothing, takes less than 12 KiB of stack,
  * and writes only to the buffers that are not const. A buffer is a pointer and then its number of elements; a buffer that
  * is written must not overlap another one, and a null pointer is fine where the number is 0. Numbers of 16 bits are aligned
  * as uint16_t is. Calls with buffers of their own may run at the same time.

@@ -10,8 +10,8 @@ use crate::stack::cleared;
 use scheme::Refusal;
 use sets::{ParameterSet, Set};
 
-/// What a setup may leave on the stack: frames of 760 bytes, and 2900 where the C library is bound at its first call, which saves registers.
-const SETUP_DEPTH: usize = 3072;
+/// What a setup may leave on the stack: frames of 760 bytes, and 3700 where the C library is bound at its first call, which saves registers.
+const SETUP_DEPTH: usize = 4096;
 
 /// Whether the lengths are those of the set.
 fn right_lengths(s: Set, random: usize, public: usize, private: usize, work: usize) -> bool

@@ -9,15 +9,15 @@ ghost use Rattle.std.specs.Prelude.{◌≡◌, ◌<◌, Result, length, replicat
 
 use scheme::Refusal;
 
-/// Sets all to zero, and gives the bits that are left.
+/// The bits of zeros that were written: none. It is a call of its own, so that the zeros are written first.
 #[inline(never)]
 #[tactic(auto, using(crate::proofs::Zero::or_zero))]
-fn wipe(bytes: &mut [u8]) -> u8
+fn read_back(zeros: &[u8]) -> u8
+    requires zero { zeros.now ≡ replicate (length zeros.now) 0 }
     ensures clean { result ≡ 0 }
 {
-    bytes.fill(0);
     let mut left = 0;
-    for byte in bytes.iter() {
+    for byte in zeros {
         left |= *byte;
     }
     left
@@ -29,12 +29,12 @@ fn burn<const DEPTH: usize>() -> u8
     requires depth { DEPTH < 65536 }
     ensures clean { result ≡ 0 }
 {
-    let mut room = [0u8; DEPTH];
-    wipe(&mut room)
+    let room = [0u8; DEPTH];
+    read_back(&room)
 }
 
 /// The answer of a call that has returned, once the frames that it used are overwritten, `DEPTH` bytes deep. That call must be `#[inline(never)]`.
-pub fn cleared<T: Copy, const DEPTH: usize>(answer: Result<T, Refusal>) -> Result<T, Refusal>
+pub(crate) fn cleared<T: Copy, const DEPTH: usize>(answer: Result<T, Refusal>) -> Result<T, Refusal>
     requires depth { DEPTH < 65536 }
     ensures same { result ≡ answer }
 {

@@ -17,6 +17,7 @@ use values::{add_values, find_values};
 mod places;
 mod rooms;
 mod root;
+mod runs;
 mod settle;
 mod sums;
 mod values;
@@ -44,7 +45,7 @@ fn apply(
     ensures { (t : ℕ) → t + t ≡ length sums.old → Decodes ten (length word.old) t word.old result word.new }
 {
     add_values(word, places, values);
-    products.copy_from_slice(values);
+    runs::copy(values, products);
     settle::add_sums(sums, points, products);
     if all_zero(sums) {
         return Ok(());

@@ -5,6 +5,7 @@ ghost use Rattle.gf.specs.Ten.{ten};
 ghost use Rattle.linear.specs.Matrix.{entry};
 ghost use Rattle.code.specs.Stages.{Elements, Powers, Equation, Kept, Collected, Suspects};
 
+use crate::runs::copy;
 use crate::sums::power_sums;
 
 /// Row i of a system of equations: the coefficients, and the right side after them.
@@ -14,7 +15,7 @@ pub fn put_equation(matrix: &mut [u16], i: usize, left: &[u16], right: u16)
 {
     let r = left.len();
     let at = i * (r + 1);
-    matrix[at..at + r].copy_from_slice(left);
+    copy(left, &mut matrix[at..at + r]);
     matrix[at + r] = right;
 }
 

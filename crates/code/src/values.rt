@@ -5,6 +5,7 @@ ghost use Rattle.gf.specs.Ten.{ten};
 ghost use Rattle.code.specs.Stages.{Elements, Powers, PowerRows, Suspects, Values, Added};
 
 use crate::places::put_equation;
+use crate::runs::copy;
 
 // The numbers at the places.
 fn gather(from: &[u16], places: &[u16], to: &mut [u16])
@@ -25,7 +26,7 @@ fn power_rows(matrix: &mut [u16], points: &[u16], next: &mut [u16], sums: &[u16]
     requires small { Elements ten points.now }
     ensures { PowerRows ten (length points.now) points.now sums.now matrix.new }
 {
-    next.copy_from_slice(points);
+    copy(points, next);
     for i in 0..points.len() {
         put_equation(matrix, i, next, sums[i]);
         gf::multiply(next, points);

@@ -1,4 +1,4 @@
--- Gauss-Jordan elimination, column by column, to the echelon format [I, GE] (RLCE-KEM specification of September 14, 2017, section 6.1.2, and section 6.1.3, step 26),
+-- Gauss-Jordan elimination, column by column, to the echelon format [I, GE] (RLCE-KEM specification of September 14, 2017, section 6.1.2),
 -- the reduced row echelon form, with its count of row operations. The specification leaves the order open; it is fixed here, so that the count is.
 -- The pivot of column c comes to row c. A row operation is a swap, a scaling or an addition, and works on whole rows.
 use Rattle.std.specs.Prelude.{◌≡◌, Bool, not, List, ℕ, zero, suc, ◌+◌, ◌*◌, ◌-◌, ◌≤◌, eqb, ltb}

@@ -10,11 +10,8 @@ use lib.Pow.{pow_pos}
 use Rattle.gf.specs.Ten.{ten}
 use Rattle.bits.specs.Bits.{Small}
 use Rattle.scheme.specs.Setup.{det, Found, found, none, with_block, blocks}
+use Rattle.making.proofs.Columns.{det_at}
 use Rattle.making.proofs.Searching.{blocks-short, blocks-skip, blocks-take}
-
--- the determinant of block i
-abbrev pub det_at : List ℕ → ℕ → ℕ
-det_at A i = det ten (get_or A (4 * i) 0) (get_or A (4 * i + 1) 0) (get_or A (4 * i + 2) 0) (get_or A (4 * i + 3) 0)
 
 pub record Blocks (w : ℕ) (l A : List ℕ) : Type 0 where
   pub long : length A ≡ 4 * w
