@@ -1,5 +1,5 @@
 /* What the calls need of a stack: each answers on a thread of 16384 bytes, the least that a thread may have, of which starting
- * it takes some 4000.
+ * it takes some 4500.
  *
  * Each call of each set runs in a process of its own, in a thread whose stack lies between pages without access. Before, each
  * has run once on the usual stack, so that the C library's functions that it calls are bound. Prints the calls that fail, or that
